@@ -1,0 +1,17 @@
+-- The sizes of a script and of its place in a row of numbers, each named once. Assumes nothing.
+use Prim.Native.Nat.{ℕ}
+
+abbrev pub line-size : ℕ
+line-size = 4
+
+abbrev pub max-lines : ℕ
+max-lines = 32
+
+abbrev pub max-skip : ℕ
+max-skip = 32
+
+abbrev pub max-askings : ℕ
+max-askings = 32
+
+abbrev pub register-count : ℕ
+register-count = 8

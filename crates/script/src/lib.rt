@@ -1,0 +1,23 @@
+// Scripts: their lines, what refuses them, and one line's work on the registers.
+mod check;
+mod effect;
+mod layout;
+mod line;
+mod refusal;
+mod registers;
+mod row;
+mod script_row;
+mod source;
+
+pub use check::check_script;
+pub use effect::Effect;
+pub use effect::Waiting;
+pub use layout::LINE_SIZE;
+pub use layout::MAX_ASKINGS;
+pub use layout::MAX_LINES;
+pub use line::Line;
+pub use refusal::Refusal;
+pub use registers::Registers;
+pub use script_row::line_count;
+pub use script_row::line_of;
+pub use source::SourceLine;
