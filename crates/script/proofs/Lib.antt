@@ -1,3 +1,4 @@
+pub mod Chunks
 pub mod Faults
 pub mod Lines
 pub mod Steps

@@ -1,19 +1,18 @@
 -- One line's work is one step of the script's task. Assumes nothing.
 use mathlib.Core.Bool.{cond}
 use mathlib.Core.List.{List, [], _∷_}
-use mathlib.Core.Logic.{⊎-elim}
 use mathlib.Core.Path.{_≡_, refl, sym, _∙_, ap}
 use Prim.Native.Nat.{ℕ, zero, suc, _+_, _-_, _^_, _≤_, _<_, min}
 use native.Mathlib.Omega.{arith}
 use lib.Dec.{eqb}
 use lib.ListN.{length, getD, drop, set}
 use Rattle.std.proofs.shelf.Lists.{drop-all, drop-drop, drop-more}
-use Rattle.std.proofs.shelf.Tests.{cases-lt}
 use Rattle.script.specs.Machine.{further, rest, resumed, start, value-in, work}
 use Rattle.script.specs.Rule.{Script, Value, asks, done, sum, task, task-of}
 use Rattle.script.specs.declared.line.Line.{Line}
 use Rattle.script.specs.declared.line.Line.the-variants.{Ask, AskAt, Number, Sum, Unless, Give}
 use Rattle.script.specs.declared.registers.Registers.{Registers}
+use Rattle.script.proofs.Chunks.{drop-min}
 
 -- lines that are still to be left out may be dropped at once
 pub task-skip : (s : Script) (regs : List Value) (n : ℕ) → task s regs n ≡ task (drop n s) regs 0
@@ -22,14 +21,6 @@ task-skip [] regs zero = refl
 task-skip [] regs (suc n) = refl
 task-skip (l ∷ ls) regs zero = refl
 task-skip (l ∷ ls) regs (suc n) = task-skip ls regs n
-
--- a line's number that is held down drops the same lines, since no row is that long
-drop-min : (n : ℕ) (s : Script) → length s < 2 ^ 64 → drop (min n (2 ^ 64 - 1)) s ≡ drop n s
-drop-min n s h =
-    ⊎-elim
-    (λ below. let same : min n (2 ^ 64 - 1) ≡ n = omega arith in rw same refl)
-    (λ above. drop-all (min n (2 ^ 64 - 1)) s (omega arith) ∙ sym (drop-all n s (omega arith)))
-    (cases-lt n (2 ^ 64))
 
 module _ (s : Script) (g : Registers) (short : length s < 2 ^ 64) where
   after : List Line
@@ -40,12 +31,16 @@ module _ (s : Script) (g : Registers) (short : length s < 2 ^ 64) where
   unfolding after
   split l h here = ap (λ ls. task ls (g .values) 0) (drop-more s (g .next) l h ∙ ap (λ x. x ∷ drop (g .next + 1) s) here)
 
+  -- a line's number that is held down drops the same lines, since no row is that long
+  held : (n : ℕ) → drop (min n (2 ^ 64 - 1)) s ≡ drop n s
+  held n = drop-min n (2 ^ 64 - 1) s (omega arith)
+
   one-on : drop (further g 1 .next) s ≡ after
   unfolding after
-  one-on = drop-min (g .next + 1) s short
+  one-on = held (g .next + 1)
 
   skip-on : (n : ℕ) → drop (further (further g 1) n .next) s ≡ drop n after
-  skip-on n = drop-min _ s short ∙ sym (drop-drop n _ s) ∙ ap (drop n) one-on
+  skip-on n = held _ ∙ sym (drop-drop n _ s) ∙ ap (drop n) one-on
 
   stepped : (l : Line) → task (l ∷ after) (g .values) 0 ≡ resumed s (work g l)
   unfolding task

@@ -40,10 +40,14 @@ line-at row at = line-in (getD row (at + 0) 0) (getD row (at + 1) 0) (getD row (
 abbrev pub written-at : List ℕ → ℕ → List ℕ → List ℕ
 written-at row at ns = set (set (set (set row (at + 0) (getD ns 0 0)) (at + 1) (getD ns 1 0)) (at + 2) (getD ns 2 0)) (at + 3) (getD ns 3 0)
 
-unfoldable pub lines-in : ℕ → List ℕ → List Line
-lines-in zero xs = []
-lines-in (suc n) xs = line-at xs 0 ∷ lines-in n (drop line-size xs)
+-- pieces of one length that stand one behind the other, each read from its first number on
+unfoldable pub chunks : {X : Type 0} → (List ℕ → X) → ℕ → ℕ → List ℕ → List X
+chunks read size zero xs = []
+chunks read size (suc n) xs = read xs ∷ chunks read size n (drop size xs)
+
+abbrev pub first-line : List ℕ → Line
+first-line xs = line-at xs 0
 
 -- a script in a row: a count of lines, of which one above 32 is read as 32, and the lines
 abbrev pub script-in : List ℕ → List Line
-script-in xs = lines-in (min (getD xs 0 0) max-lines) (drop 1 xs)
+script-in xs = chunks first-line line-size (min (getD xs 0 0) max-lines) (drop 1 xs)

@@ -1,0 +1,9 @@
+// The house: its desks, and the commands that are given at them.
+mod check;
+mod command;
+mod size;
+
+pub use command::Asking;
+pub use command::Command;
+pub use size::HouseSize;
+pub use size::Place;
