@@ -10,7 +10,7 @@ use Rattle.script.specs.Allowed.{source-line}
 use Rattle.script.specs.Rows.{chunks}
 use Rattle.script.specs.declared.source.SourceLine.{SourceLine}
 use Rattle.house.specs.Deeds.{Deed, write, give, build, forget, bring}
-use Rattle.house.specs.declared.command.Asking.{Asking}
+use Rattle.entry.specs.declared.asking.Asking.{Asking}
 use Rattle.house.specs.declared.size.HouseSize.{HouseSize}
 use Rattle.dayfile.specs.Bytes.{low-first}
 

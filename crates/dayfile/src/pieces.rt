@@ -10,7 +10,7 @@ use super::bytes::byte_at;
 use super::bytes::read_u32;
 use super::bytes::read_u64;
 use super::bytes::tail;
-use house::Asking;
+use entry::Asking;
 use script::SourceLine;
 use std::alloc::AllocError;
 use std::alloc::Global;

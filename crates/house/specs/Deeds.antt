@@ -4,7 +4,7 @@ use Prim.Native.Nat.{ℕ}
 use Rattle.std.specs.Of.Vec.{vec-items}
 use Rattle.script.specs.Rule.{Value}
 use Rattle.script.specs.declared.source.SourceLine.{SourceLine}
-use Rattle.house.specs.declared.command.Asking.{Asking}
+use Rattle.entry.specs.declared.asking.Asking.{Asking}
 use Rattle.house.specs.declared.command.Command.{Command}
 use Rattle.house.specs.declared.command.Command.the-variants.{Write, Script, Build, Remove, Import}
 

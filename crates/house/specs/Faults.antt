@@ -11,7 +11,7 @@ use Rattle.script.specs.Layout.{max-askings}
 use Rattle.script.specs.declared.refusal.Refusal.{Refusal}
 use Rattle.script.specs.declared.refusal.Refusal.the-variants.{NoSuchDesk, NoSuchItem, TooManyAskings}
 use Rattle.house.specs.Deeds.{Deed, write, give, build, forget, bring}
-use Rattle.house.specs.declared.command.Asking.{Asking}
+use Rattle.entry.specs.declared.asking.Asking.{Asking}
 use Rattle.house.specs.declared.size.HouseSize.{HouseSize}
 
 -- the desk, and then the item at it

@@ -1,12 +1,6 @@
 // The five commands of a day, with what each of them carries.
+use entry::Asking;
 use script::SourceLine;
-
-// One asking of an entry: the item that was asked for, and the answer.
-#[derive(Clone, Copy)]
-pub struct Asking {
-    pub item: u64,
-    pub answer: u64,
-}
 
 // Lines and askings are as they came from outside: whether they are allowed is checked when the command is performed.
 #[derive(Drop)]

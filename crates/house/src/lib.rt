@@ -3,7 +3,6 @@ mod check;
 mod command;
 mod size;
 
-pub use command::Asking;
 pub use command::Command;
 pub use size::HouseSize;
 pub use size::Place;
