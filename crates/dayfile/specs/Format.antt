@@ -7,7 +7,7 @@ use lib.ListN.{length, getD, drop}
 use Rattle.std.specs.declared.option.Option.{Option}
 use Rattle.std.specs.declared.option.Option.the-variants.{None, Some}
 use Rattle.script.specs.Allowed.{source-line}
-use Rattle.script.specs.Rows.{chunks}
+use Rattle.rows.specs.Rows.{chunks}
 use Rattle.script.specs.declared.source.SourceLine.{SourceLine}
 use Rattle.house.specs.Deeds.{Deed, write, give, build, forget, bring}
 use Rattle.entry.specs.declared.asking.Asking.{Asking}

@@ -1,7 +1,7 @@
 // Reads pieces of one length that stand one behind the other: the lines and the askings of a command.
 ghost use Prim.Native.Nat.{ℕ, _≤_};
 ghost use Rattle.dayfile.specs.Format.{asking-bytes, asking-in-bytes, line-bytes, line-in-bytes};
-ghost use Rattle.script.specs.Rows.{chunks};
+ghost use Rattle.rows.specs.Rows.{chunks};
 ghost use Rattle.std.specs.Of.Vec.{vec-items};
 ghost use Rattle.std.specs.Vec.{made};
 ghost use mathlib.Core.List.{List};

@@ -1,4 +1,3 @@
-pub mod Chunks
 pub mod Faults
 pub mod Lines
 pub mod Steps

@@ -1,14 +1,18 @@
 -- Laws of the lines that stand in a row. Assumes nothing.
-use mathlib.Core.List.{List}
+use mathlib.Core.List.{List, _++_}
 use mathlib.Core.Path.{_≡_, refl, _∙_, ap}
 use Prim.Native.Nat.{ℕ, _+_, _*_, _≤_, _<_, min}
 use native.Mathlib.Omega.{arith}
 use lib.ListN.{length, getD, drop}
 use Rattle.std.proofs.shelf.Lists.{drop-drop, getD-drop}
-use Rattle.script.specs.Layout.{line-size, max-lines}
-use Rattle.script.specs.Rows.{first-line, line-at, script-in}
+use Rattle.script.specs.Layout.{line-size, max-lines, script-size}
+use Rattle.script.specs.Rows.{first-line, line-at, line-out, script-in, script-out}
 use Rattle.script.specs.declared.line.Line.{Line}
-use Rattle.script.proofs.Chunks.{chunk-at, length-chunks}
+use Rattle.script.specs.declared.line.Line.the-variants.{Ask, AskAt, Number, Sum, Unless, Give}
+use Rattle.rows.proofs.Chunks.{chunk-at, length-chunks}
+use Rattle.rows.proofs.Counted.{counted-back, length-counted}
+use Rattle.rows.proofs.Written.{getD-written}
+use Rattle.rows.specs.Rows.{written-at}
 
 pub length-script : (xs : List ℕ) → length (script-in xs) ≡ min (getD xs 0 0) max-lines
 length-script xs = length-chunks first-line line-size _ _
@@ -26,3 +30,43 @@ line-drop xs n at =
 pub script-at : (xs : List ℕ) (i : ℕ) (d : Line) → i < length (script-in xs) → getD (script-in xs) i d ≡ line-at xs (1 + line-size * i)
 script-at xs i d h =
     chunk-at first-line line-size _ (drop 1 xs) i d (rw length-script at h) ∙ ap first-line (drop-drop (line-size * i) 1 xs) ∙ line-drop xs (1 + line-size * i) 0 ∙ ap (line-at xs) (omega arith)
+
+-- what is written of a line stands for it
+pub line-back : (l : Line) → line-at (line-out l) 0 ≡ l
+line-back (Ask r k) = refl
+line-back (AskAt r a) = refl
+line-back (Number r n) = refl
+line-back (Sum r a b) = refl
+line-back (Unless a b n) = refl
+line-back (Give r) = refl
+
+pub length-line : (l : Line) → length (line-out l) ≡ line-size
+length-line (Ask r k) = refl
+length-line (AskAt r a) = refl
+length-line (Number r n) = refl
+length-line (Sum r a b) = refl
+length-line (Unless a b n) = refl
+length-line (Give r) = refl
+
+-- a line that is written where there is room for it is read there again
+pub line-written : (row : List ℕ) (at : ℕ) (l : Line) → at + line-size ≤ length row → line-at (written-at row at (line-out l)) at ≡ l
+line-written row at l fits =
+    let four = length-line l in
+    let read : (j : ℕ) → j < line-size → getD (written-at row at (line-out l)) (at + j) 0 ≡ getD (line-out l) j 0
+    = λ j h. getD-written row at (line-out l) j (omega arith) (omega arith) in
+    rw (read 0 (omega arith), read 1 (omega arith), read 2 (omega arith), read 3 (omega arith)) (line-back l)
+
+first-back : (l : Line) (zs : List ℕ) → first-line (line-out l ++ zs) ≡ l
+first-back (Ask r k) zs = refl
+first-back (AskAt r a) zs = refl
+first-back (Number r n) zs = refl
+first-back (Sum r a b) zs = refl
+first-back (Unless a b n) zs = refl
+first-back (Give r) zs = refl
+
+-- a script that is written down is read back, whatever follows it
+pub script-back : (s : List Line) (more : List ℕ) → length s ≤ max-lines → script-in (script-out s ++ more) ≡ s
+script-back s more few = counted-back line-out line-size length-line first-line first-back max-lines s more few
+
+pub length-script-out : (s : List Line) → length s ≤ max-lines → length (script-out s) ≡ script-size
+length-script-out s few = length-counted line-out line-size length-line max-lines s few

@@ -12,7 +12,7 @@ use Rattle.script.specs.Rule.{Script, Value, asks, done, sum, task, task-of}
 use Rattle.script.specs.declared.line.Line.{Line}
 use Rattle.script.specs.declared.line.Line.the-variants.{Ask, AskAt, Number, Sum, Unless, Give}
 use Rattle.script.specs.declared.registers.Registers.{Registers}
-use Rattle.script.proofs.Chunks.{drop-min}
+use Rattle.rows.proofs.Chunks.{drop-min}
 
 -- lines that are still to be left out may be dropped at once
 pub task-skip : (s : Script) (regs : List Value) (n : ℕ) → task s regs n ≡ task (drop n s) regs 0

@@ -2,9 +2,10 @@
 use mathlib.Core.Path.{_≡_}
 use mathlib.Core.Bool.{cond}
 use mathlib.Core.List.{List, [], _∷_}
-use Prim.Native.Nat.{ℕ, zero, suc, _+_, _≤_, min}
+use Prim.Native.Nat.{ℕ, _+_, _≤_}
 use lib.Dec.{eqb, ltb}
-use lib.ListN.{getD, set, drop}
+use lib.ListN.{getD}
+use Rattle.rows.specs.Rows.{counted, counted-out}
 use Rattle.script.specs.Layout.{line-size, max-lines}
 use Rattle.script.specs.declared.line.Line.{Line}
 use Rattle.script.specs.declared.line.Line.the-variants.{Ask, AskAt, Number, Sum, Unless, Give}
@@ -36,18 +37,12 @@ In-form kind a b = (kind ≤ 5) × (used kind ≤ 1 → a ≡ 0) × (used kind �
 abbrev pub line-at : List ℕ → ℕ → Line
 line-at row at = line-in (getD row (at + 0) 0) (getD row (at + 1) 0) (getD row (at + 2) 0) (getD row (at + 3) 0)
 
--- the row with these four numbers from a place on; what would lie past its end is left out
-abbrev pub written-at : List ℕ → ℕ → List ℕ → List ℕ
-written-at row at ns = set (set (set (set row (at + 0) (getD ns 0 0)) (at + 1) (getD ns 1 0)) (at + 2) (getD ns 2 0)) (at + 3) (getD ns 3 0)
-
--- pieces of one length that stand one behind the other, each read from its first number on
-unfoldable pub chunks : {X : Type 0} → (List ℕ → X) → ℕ → ℕ → List ℕ → List X
-chunks read size zero xs = []
-chunks read size (suc n) xs = read xs ∷ chunks read size n (drop size xs)
-
 abbrev pub first-line : List ℕ → Line
 first-line xs = line-at xs 0
 
--- a script in a row: a count of lines, of which one above 32 is read as 32, and the lines
+-- a script in a row: a count of lines, and the lines
 abbrev pub script-in : List ℕ → List Line
-script-in xs = chunks first-line line-size (min (getD xs 0 0) max-lines) (drop 1 xs)
+script-in xs = counted first-line line-size max-lines xs
+
+abbrev pub script-out : List Line → List ℕ
+script-out ls = counted-out line-out line-size max-lines ls

@@ -6,6 +6,9 @@ pub const LINE_SIZE: usize = 4;
 // Lines that a script has at most.
 pub const MAX_LINES: usize = 32;
 
+// Numbers that a script takes in a row: a count of lines, and room for the most that it has.
+pub const SCRIPT_SIZE: usize = 1 + LINE_SIZE * MAX_LINES;
+
 // Lines that a line of kind 4 leaves out at most.
 pub const MAX_SKIP: u64 = 32;
 

@@ -5,7 +5,6 @@ mod layout;
 mod line;
 mod refusal;
 mod registers;
-mod row;
 mod script_row;
 mod source;
 

@@ -1,12 +1,13 @@
 // One line of a script, and the four numbers that stand for it in a row.
 ghost use Prim.Native.Nat.{_+_, _≤_};
-ghost use Rattle.script.specs.Rows.{In-form, line-at, line-in, line-out, written-at};
+ghost use Rattle.script.specs.Rows.{In-form, line-at, line-in, line-out};
+ghost use Rattle.rows.specs.Rows.{written-at};
 ghost use lib.ListN.{length};
 ghost use mathlib.Core.List.{[], _∷_};
 ghost use mathlib.Core.Path.{_≡_};
 use super::layout::LINE_SIZE;
-use super::row::number_after;
-use super::row::put_after;
+use rows::number_after;
+use rows::put_all;
 
 const ASK: u64 = 0;
 
@@ -123,10 +124,6 @@ impl Line {
         ensures after { λ _. ⌜ now (row .exit) ≡ written-at (now (row .entry)) at (line-out self) ⌝ }
         ensures reads_back { λ _. ⌜ (at + 4 ≤ length (now (row .entry)) → line-at (now (row .exit)) at ≡ self) ⌝ }
     {
-        let numbers = self.numbers();
-        put_after(row, at, 0, numbers[0]);
-        put_after(row, at, 1, numbers[1]);
-        put_after(row, at, 2, numbers[2]);
-        put_after(row, at, 3, numbers[3]);
+        put_all(row, at, &self.numbers());
     }
 }

@@ -1,13 +1,21 @@
 // A script in a row: a count of lines, and then the lines.
-ghost use Prim.Native.Nat.{_<_, _≤_};
-ghost use Rattle.script.specs.Rows.{script-in};
+ghost use Prim.Native.Nat.{_+_, _*_, _<_, _≤_};
+ghost use Rattle.script.specs.Layout.{line-size, script-size};
+ghost use Rattle.script.specs.Rows.{line-out, script-in, script-out};
+ghost use Rattle.std.specs.Joined.{joined};
 ghost use Rattle.std.specs.Options.{Cases};
-ghost use lib.ListN.{getD, length};
+ghost use lib.Dec.{eqb};
+ghost use lib.ListN.{getD, length, take};
+ghost use mathlib.Core.Bool.{cond};
+ghost use mathlib.Core.List.{_++_};
 ghost use mathlib.Core.Path.{_≡_};
 use super::layout::LINE_SIZE;
 use super::layout::MAX_LINES;
+use super::layout::SCRIPT_SIZE;
 use super::line::Line;
-use super::row::number_after;
+use rows::clear_from;
+use rows::number_after;
+use rows::put_all;
 
 // A count above the most that a script has is read as the most.
 pub fn line_count(script: &[u64]) -> usize
@@ -25,5 +33,28 @@ pub fn line_of(script: &[u64], index: usize) -> Option<Line>
         Some(Line::read(script, 1 + LINE_SIZE * index))
     } else {
         None
+    }
+}
+
+// Copies a script into a row of its own, line by line as it is read; a row of another size is left as it was.
+pub fn write_script(row: &mut [u64], script: &[u64])
+    ensures { λ _. ⌜ now (row .exit) ≡ cond (eqb (length (now (row .entry))) script-size) (script-out (script-in (now (script .entry)))) (now (row .entry)) ⌝ }
+{
+    if row.len() != SCRIPT_SIZE {
+        return;
+    }
+    let count = line_count(script);
+    put_all(row, 0, &[count as u64]);
+    write_lines(row, script);
+    clear_from(row, 1 + LINE_SIZE * count);
+}
+
+// Copies the lines behind the row's first number.
+fn write_lines(row: &mut [u64], script: &[u64])
+    requires { ⌜ script-size ≤ length (now row) ⌝ }
+    ensures { λ _. ⌜ take (1 + line-size * length (script-in (now (script .entry)))) (now (row .exit)) ≡ take 1 (now (row .entry)) ++ joined line-out (script-in (now (script .entry))) ⌝ }
+{
+    for index in 0..line_count(script) {
+        Line::read(script, 1 + LINE_SIZE * index).write(row, 1 + LINE_SIZE * index);
     }
 }

@@ -2,7 +2,7 @@ use mathlib.Core.Path.{_∙_, ap}
 use native.Mathlib.Omega.{arith}
 use lib.ListN.{length, drop}
 use Rattle.std.proofs.shelf.Lists.{take-rest}
-use Rattle.script.proofs.Chunks.{drop-min}
+use Rattle.rows.proofs.Chunks.{drop-min}
 use Rattle.dayfile.proofs.bytes.tail.Needs as need
 
 pub returns : need.returns

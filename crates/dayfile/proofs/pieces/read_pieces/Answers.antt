@@ -1,7 +1,7 @@
 use mathlib.Core.Path.{sym, _∙_, ap}
 use Prim.Native.Nat.{_*_}
 use lib.ListN.{drop}
-use Rattle.script.proofs.Chunks.{chunks-none, chunks-push}
+use Rattle.rows.proofs.Chunks.{chunks-none, chunks-push}
 use Rattle.dayfile.proofs.pieces.read_pieces.Needs as need
 
 pub loop-index-holds : need.loop-index-holds

@@ -1,6 +1,6 @@
 use mathlib.Core.Path.{_≡_}
 use Rattle.std.specs.Of.Vec.{vec-items}
-use Rattle.script.specs.Rows.{chunks}
+use Rattle.rows.specs.Rows.{chunks}
 use Rattle.dayfile.proofs.pieces.read_pieces.Given as given
 
 abbrev pub Inv-loop-index : given.InvT-loop-index

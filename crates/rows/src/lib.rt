@@ -1,7 +1,9 @@
 // Total access to a lent row: a number that is not there reads as 0 and takes no write.
-ghost use Prim.Native.Nat.{_+_, _<_, _≤_};
+ghost use Prim.Native.Nat.{_+_, _-_, _<_, _≤_};
 ghost use Rattle.std.specs.Options.{Cases};
-ghost use lib.ListN.{getD, set};
+ghost use Rattle.rows.specs.Rows.{written-at};
+ghost use lib.ListN.{getD, length, replicate, set, take};
+ghost use mathlib.Core.List.{_++_};
 ghost use mathlib.Core.Path.{_≡_};
 
 // The place `offset` after `at`, if a row of this length has it.
@@ -22,11 +24,27 @@ pub fn number_after(row: &[u64], at: usize, offset: usize) -> u64
     }
 }
 
-// Writes the number `offset` places after `at`.
-pub fn put_after(row: &mut [u64], at: usize, offset: usize, number: u64)
+fn put_after(row: &mut [u64], at: usize, offset: usize, number: u64)
     ensures { λ _. ⌜ now (row .exit) ≡ set (now (row .entry)) (at + offset) number ⌝ }
 {
     if let Some(place) = place_in(row.len(), at, offset) {
         row[place] = number;
     }
+}
+
+// Writes the numbers one behind the other from `at` on.
+pub fn put_all(row: &mut [u64], at: usize, numbers: &[u64])
+    ensures { λ _. ⌜ now (row .exit) ≡ written-at (now (row .entry)) at (now (numbers .entry)) ⌝ }
+{
+    for (offset, number) in numbers.iter().enumerate() {
+        put_after(row, at, offset, *number);
+    }
+}
+
+// Writes 0 from `at` on.
+pub fn clear_from(row: &mut [u64], at: usize)
+    ensures { λ _. ⌜ now (row .exit) ≡ take at (now (row .entry)) ++ replicate (length (now (row .entry)) - at) 0 ⌝ }
+{
+    let start = at.min(row.len());
+    row[start..].fill(0);
 }

@@ -9,7 +9,7 @@ use native.Mathlib.Omega.{arith}
 use lib.ListN.{length, getD, drop}
 use Rattle.std.proofs.shelf.Lists.{drop-all, drop-drop}
 use Rattle.std.proofs.shelf.Tests.{cases-lt}
-use Rattle.script.specs.Rows.{chunks}
+use Rattle.rows.specs.Rows.{chunks}
 
 -- a place that is held down to one past the end drops the same
 pub drop-min : {X : Type 0} (n most : ℕ) (xs : List X) → length xs ≤ most → drop (min n most) xs ≡ drop n xs

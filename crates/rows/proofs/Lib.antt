@@ -1,0 +1,3 @@
+pub mod Chunks
+pub mod Counted
+pub mod Written
