@@ -1,20 +1,12 @@
 // Total reading of bytes: one that is not there reads as 0.
 ghost use Rattle.dayfile.specs.Bytes.{low-first};
-ghost use lib.ListN.{drop, getD};
+ghost use lib.ListN.{getD};
 ghost use mathlib.Core.Path.{_≡_};
 
 pub fn byte_at(bytes: &[u8], at: usize) -> u8
     ensures { λ r. ⌜ r ≡ getD (now (bytes .entry)) at 0 ⌝ }
 {
     if at < bytes.len() { bytes[at] } else { 0 }
-}
-
-// The bytes from `at` on, of which there may be none.
-pub fn tail(bytes: &[u8], at: usize) -> &[u8]
-    ensures { λ r. ⌜ now r ≡ drop at (now (bytes .entry)) ⌝ }
-{
-    let start = at.min(bytes.len());
-    &bytes[start..]
 }
 
 // The number of four bytes, low byte first.

@@ -8,13 +8,13 @@ ghost use lib.ListN.{length};
 ghost use mathlib.Core.Path.{_≡_};
 use super::bytes::byte_at;
 use super::bytes::read_u64;
-use super::bytes::tail;
 use super::pieces::ASKING_BYTES;
 use super::pieces::AskingPiece;
 use super::pieces::LINE_BYTES;
 use super::pieces::LinePiece;
 use super::pieces::read_pieces;
 use house::Command;
+use rows::tail;
 use std::alloc::AllocError;
 use std::alloc::Global;
 

@@ -4,13 +4,13 @@ ghost use Rattle.dayfile.specs.declared.day.DayError.the-variants.{OutOfMemory
 ghost use Rattle.std.specs.Of.Vec.{vec-items};
 ghost use Rattle.std.specs.Vec.{made};
 ghost use mathlib.Core.Path.{_≡_};
-use super::bytes::tail;
 use super::command::read_command;
 use super::command::whole_command;
 use super::head::HEAD_BYTES;
 use super::head::read_head;
 use house::Command;
 use house::HouseSize;
+use rows::tail;
 use script::Refusal;
 use std::alloc::AllocError;
 use std::alloc::Global;

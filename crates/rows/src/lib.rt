@@ -2,9 +2,17 @@
 ghost use Prim.Native.Nat.{_+_, _-_, _<_, _≤_};
 ghost use Rattle.std.specs.Options.{Cases};
 ghost use Rattle.rows.specs.Rows.{written-at};
-ghost use lib.ListN.{getD, length, replicate, set, take};
+ghost use lib.ListN.{drop, getD, length, replicate, set, take};
 ghost use mathlib.Core.List.{_++_};
 ghost use mathlib.Core.Path.{_≡_};
+
+// The part of a row from `at` on, of which there may be nothing.
+pub fn tail<T>(row: &[T], at: usize) -> &[T]
+    ensures { λ r. ⌜ now r ≡ drop at (now (row .entry)) ⌝ }
+{
+    let start = at.min(row.len());
+    &row[start..]
+}
 
 // The place `offset` after `at`, if a row of this length has it.
 fn place_in(length: usize, at: usize, offset: usize) -> Option<usize>
