@@ -1,6 +1,6 @@
 -- Laws of a run that has come some way. Assumes nothing.
 use mathlib.Core.List.{List, [], _∷_, _++_}
-use mathlib.Core.Path.{_≡_, refl, sym, _∙_, ap, subst}
+use mathlib.Core.Path.{_≡_, refl, sym, _∙_, subst}
 use Prim.Native.Nat.{ℕ}
 use Rattle.script.specs.Rule.{Task, Value, asks, done}
 use Rattle.entry.specs.declared.asking.Asking.{Asking}

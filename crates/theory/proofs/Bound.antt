@@ -1,20 +1,20 @@
 -- The clean build finds exactly the values that there are, and goes by its own answers. Assumes nothing.
 use mathlib.Core.List.{List}
 use mathlib.Core.Logic.{⊎-elim}
-use mathlib.Core.Path.{_≡_, refl, sym, _∙_, ap}
-use Prim.Native.Nat.{ℕ, suc, _+_, _<_, _≤_}
-use native.Mathlib.Numerals.{add-one}
+use mathlib.Core.Path.{_≡_, sym, _∙_, ap}
+use Prim.Native.Nat.{ℕ, suc, _+_, _<_}
 use native.Mathlib.Omega.{arith}
 use lib.ListN.{length}
 use Rattle.script.specs.Rule.{Script, Task, Value, task-of}
 use Rattle.entry.specs.declared.asking.Asking.{Asking}
 use Rattle.theory.specs.Clean.{Asks, Makes, Reached, Runs, clean, deep, out-of, ring, run, value}
 use Rattle.theory.specs.Items.{Item, item, made, written}
-use Rattle.theory.specs.Rings.{Needs}
+use Rattle.theory.specs.Rings.{Needs, Stuck}
 use Rattle.theory.proofs.Needs.{no-ring}
-use Rattle.theory.proofs.Outs.{cases-out, deep-keeps, deep-suc, not-both}
+use Rattle.theory.proofs.Outs.{cases-out, deep-keeps, deep-suc}
 use Rattle.theory.proofs.Rings.{clean-ring}
 use Rattle.theory.proofs.Sound.{deep-makes, run-runs, run-stuck}
+use Rattle.theory.proofs.Stuck.{stuck-none}
 use Rattle.theory.proofs.Values.{makes-unique, reached-value}
 
 pub clean-makes : (d : List Item) (k : ℕ) (v : Value) → clean d k ≡ value v → Makes d k v
@@ -41,6 +41,10 @@ none-clean-ring d k none =
 -- one that needs itself on the way makes a ring
 pub needs-ring : {d : List Item} {k j : ℕ} → Reached d k j → Needs d j j → clean d k ≡ ring
 needs-ring {d} {k} r n = none-clean-ring d k (λ v m. no-ring (reached-value m r .1) n)
+
+-- items that each ask for another of them are rings
+pub stuck-ring : {d : List Item} (P : ℕ → Type 0) → ((j : ℕ) → P j → Stuck d P j) → (k : ℕ) → P k → clean d k ≡ ring
+stuck-ring {d} P stuck k p = none-clean-ring d k (λ v m. stuck-none P stuck m p)
 
 -- every depth above the count of items is deep enough
 pub deep-enough : (d : List Item) (n k : ℕ) → length d < n → deep n d k ≡ clean d k

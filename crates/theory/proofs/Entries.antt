@@ -1,9 +1,10 @@
 -- Honest entries and runs: as far as an honest entry's answers are right, its askings are those of the real run. Assumes nothing.
 use mathlib.Core.Bool.{true}
-use mathlib.Core.List.{List, [], _∷_, _++_}
-use mathlib.Core.Path.{_≡_, refl, sym, _∙_, ap, subst}
+use mathlib.Core.List.{List, [], _∷_}
+use mathlib.Core.Path.{_≡_, refl, sym, ap, subst}
 use Prim.Native.Nat.{ℕ, zero, suc, _<_, _≤_}
 use native.Mathlib.Omega.{arith}
+use lib.Dec.{eqb}
 use lib.ListN.{length, getD, take, drop}
 use Rattle.std.proofs.shelf.Lists.{drop-all, take-all}
 use Rattle.std.proofs.shelf.Tests.{and-from, and-parts, eq-eqb, eqb-true, false≢true}
@@ -15,7 +16,6 @@ use Rattle.theory.specs.Build.{Right-at, Usable}
 use Rattle.theory.specs.Clean.{Makes, Reached, Runs, by-script, ends, goes, itself, now, on}
 use Rattle.theory.specs.Items.{Item, item, made}
 use Rattle.theory.proofs.Along.{along-asks, along-done}
-use Rattle.theory.proofs.Values.{reached-value}
 
 -- a run that was recorded replays, and its answers are right
 pub runs-replays : {d : List Item} {t : Task} {qs : List Asking} {v : Value} → Runs d t qs v → replays t qs v ≡ true
@@ -40,7 +40,7 @@ module _ (d : List Item) where
   replays-along (suc i) (done v) (q ∷ qs) w few e right = absurd (false≢true e)
   replays-along (suc i) (asks k c) [] w few e right = absurd (false≢true e)
   replays-along (suc i) (asks k c) (q ∷ qs) w few e right =
-      let both = and-parts _ _ e in
+      let both = and-parts (eqb k (q .item)) (replays (c (q .answer)) qs w) e in
       let rest = replays-along i (c (q .answer)) qs w (omega arith) (both .1) (λ j h. right (suc j) (omega arith)) in
       (rest .0, subst (λ x. Along d (asks x c) (q ∷ take i qs) (rest .0)) (sym (eqb-true _ _ (both .0))) (then-on (right 0 (omega arith)) (rest .1)), rest .2)
 

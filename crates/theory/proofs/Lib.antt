@@ -5,4 +5,5 @@ pub mod Needs
 pub mod Outs
 pub mod Rings
 pub mod Sound
+pub mod Stuck
 pub mod Values

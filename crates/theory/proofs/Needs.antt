@@ -1,35 +1,41 @@
--- An item that needs itself has no value. Assumes nothing.
+-- Reach and needs; an item that needs itself has no value. Assumes nothing.
 use mathlib.Core.List.{List}
-use mathlib.Core.Path.{_≡_, sym, subst}
+use mathlib.Core.Path.{_≡_}
 use Prim.Native.Nat.{ℕ}
-use Rattle.script.specs.Rule.{Script, Task, Value, task-of}
-use Rattle.entry.specs.declared.asking.Asking.{Asking}
-use Rattle.theory.specs.Clean.{Asks, Makes, Reached, Runs, as-written, by-script, ends, goes, itself, later, now, on}
+use Rattle.script.specs.Rule.{Script, Value, task-of}
+use Rattle.theory.specs.Clean.{Asks, Makes, Reached, itself, on}
 use Rattle.theory.specs.Items.{Item, item, made}
-use Rattle.theory.specs.Rings.{Needs, by-way, directly}
-use Rattle.theory.proofs.Values.{done-asks-none, made-one, makes-unique, written-made}
+use Rattle.theory.specs.Rings.{Needs, Stuck, by-way, directly}
+use Rattle.theory.proofs.Stuck.{stuck-none}
+
+-- what holds of an item, and of all that is asked for by an item of which it holds, holds of all that is looked at
+pub reached-all : {d : List Item} {k j : ℕ} (P : ℕ → Type 0) → ((i m : ℕ) (s : Script) → P i → item d i ≡ made s → Asks d (task-of s) m → P m) → P k → Reached d k j → P j
+reached-all P closed p itself = p
+reached-all P closed p (on {i = i} {j = j} {s = s} r e a) = closed i j s (reached-all P closed p r) e a
+
+pub reached-join : {d : List Item} {k i j : ℕ} → Reached d k i → Reached d i j → Reached d k j
+reached-join {d} {k} r = reached-all (λ j. Reached d k j) (λ i m s b e a. on b e a) r
 
 pub reached-needs : {d : List Item} {i m j : ℕ} {s : Script} → Reached d i m → item d m ≡ made s → Asks d (task-of s) j → Needs d i j
-reached-needs itself p a = directly p a
-reached-needs (on r q b) p a = by-way (reached-needs r q b) p a
+reached-needs itself e a = directly e a
+reached-needs (on r f b) e a = by-way (reached-needs r f b) e a
 
 pub needs-reached : {d : List Item} {i j : ℕ} → Needs d i j → Reached d i j
-needs-reached (directly p a) = on itself p a
-needs-reached (by-way n p a) = on (needs-reached n) p a
+needs-reached (directly e a) = on itself e a
+needs-reached (by-way n e a) = on (needs-reached n) e a
 
 -- the first asking on the way
-first-asking : {d : List Item} {i j : ℕ} → Needs d i j → (s : Script) × (m : ℕ) × (item d i ≡ made s) × Asks d (task-of s) m × Reached d m j
-first-asking {j = j} (directly {s = s} p a) = (s, j, p, a, itself)
-first-asking (by-way n p a) = let f = first-asking n in (f .0, f .1, f .2, f .3, on (f .4) p a)
+pub first-asking : {d : List Item} {i j : ℕ} → Needs d i j → Stuck d (λ m. Reached d m j) i
+first-asking {j = j} (directly {s = s} e a) = record { script = s; next = j; is-made = e; asked = a; again = itself }
+first-asking (by-way n e a) =
+    let f = first-asking n in
+    record { script = f .script; next = f .next; is-made = f .is-made; asked = f .asked; again = on (f .again) e a }
 
-mutual
-  pub no-ring : {d : List Item} {k : ℕ} {v : Value} → Makes d k v → Needs d k k → ⊥
-  no-ring (as-written p) n = absurd (written-made p (first-asking n .2))
-  no-ring {d} (by-script p r) n =
-      let f = first-asking n in
-      runs-no-ring r (subst (λ s. Asks d (task-of s) (f .1)) (made-one (f .2) p) (f .3)) (reached-needs (f .4) (f .2) (f .3))
+-- an item that needs itself asks for an item that needs itself
+round : {d : List Item} (k : ℕ) → Needs d k k → Stuck d (λ m. Needs d m m) k
+round k n =
+    let f = first-asking n in
+    record { script = f .script; next = f .next; is-made = f .is-made; asked = f .asked; again = reached-needs (f .again) (f .is-made) (f .asked) }
 
-  runs-no-ring : {d : List Item} {t : Task} {qs : List Asking} {v : Value} {j : ℕ} → Runs d t qs v → Asks d t j → Needs d j j → ⊥
-  runs-no-ring ends a n = done-asks-none a
-  runs-no-ring (goes m r) now n = no-ring m n
-  runs-no-ring {d} {j = j} (goes {c = c} m r) (later o b) n = runs-no-ring r (subst (λ a. Asks d (c a) j) (makes-unique o m) b) n
+pub no-ring : {d : List Item} {k : ℕ} {v : Value} → Makes d k v → Needs d k k → ⊥
+no-ring {d} m n = stuck-none (λ j. Needs d j j) round m n

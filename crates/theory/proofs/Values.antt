@@ -1,9 +1,9 @@
 -- An item has one value and a task one run, and what is asked for on the way to a value has a value. Assumes nothing.
-use mathlib.Core.List.{List, [], _∷_}
+use mathlib.Core.List.{List}
 use mathlib.Core.Path.{_≡_, refl, sym, subst}
 use Prim.Native.Nat.{ℕ}
 use native.Mathlib.Omega.{arith}
-use Rattle.script.specs.Rule.{Script, Task, Value, asks, done, task-of}
+use Rattle.script.specs.Rule.{Script, Task, Value, done, task-of}
 use Rattle.entry.specs.declared.asking.Asking.{Asking}
 use Rattle.theory.specs.Clean.{Asks, Makes, Reached, Runs, as-written, by-script, ends, goes, itself, later, now, on}
 use Rattle.theory.specs.Items.{Item, item, made, written}

@@ -1,4 +1,4 @@
--- Which items an item needs. Assumes nothing: these are definitions.
+-- Which items an item needs, and when it waits for another. Assumes nothing: these are definitions.
 use mathlib.Core.List.{List}
 use mathlib.Core.Path.{_≡_}
 use Prim.Native.Nat.{ℕ}
@@ -10,3 +10,11 @@ use Rattle.theory.specs.Items.{Item, item, made}
 pub data Needs (d : List Item) (i : ℕ) : ℕ → Type 0 where
   directly : {j : ℕ} {s : Script} → item d i ≡ made s → Asks d (task-of s) j → Needs d i j
   by-way : {m j : ℕ} {s : Script} → Needs d i m → item d m ≡ made s → Asks d (task-of s) j → Needs d i j
+
+-- some asking of item k, answered so far with clean values, is for an item of which P holds
+pub record Stuck (d : List Item) (P : ℕ → Type 0) (k : ℕ) : Type 0 where
+  pub script : Script
+  pub next : ℕ
+  pub is-made : item d k ≡ made script
+  pub asked : Asks d (task-of script) next
+  pub again : P next
