@@ -1,0 +1,9 @@
+pub mod Along
+pub mod Bound
+pub mod Entries
+pub mod Needs
+pub mod Outs
+pub mod Rings
+pub mod Sound
+pub mod Stuck
+pub mod Values
