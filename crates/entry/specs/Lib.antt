@@ -1,1 +1,4 @@
+pub mod Layout
 pub mod Entry
+pub mod Rows
+pub mod Replay

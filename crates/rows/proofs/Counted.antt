@@ -7,8 +7,9 @@ use native.Mathlib.Numerals.{add-one}
 use native.Mathlib.Omega.{arith}
 use lib.ListN.{length, getD, take, drop, replicate}
 use Rattle.std.specs.Joined.{joined}
-use Rattle.std.proofs.shelf.Lists.{append-assoc, append-nil, drop-at, joined-more, length-append, length-replicate, take-all, take-more}
+use Rattle.std.proofs.shelf.Lists.{append-assoc, append-nil, drop-at, drop-drop, joined-more, length-append, length-replicate, take-all, take-more}
 use Rattle.rows.specs.Rows.{chunks, counted, counted-out, padded, written-at}
+use Rattle.rows.proofs.Chunks.{chunk-at, length-chunks}
 use Rattle.rows.proofs.Written.{length-written, take-written}
 
 module _ {X : Type 0} (out : X → List ℕ) (size : ℕ) (each : (y : X) → length (out y) ≡ size) where
@@ -70,3 +71,11 @@ module _ {X : Type 0} (out : X → List ℕ) (size : ℕ) (each : (y : X) → le
     counted-back most ys more few =
         let count : min (length ys) most ≡ length ys = omega arith in
         rw (count, append-assoc) (chunks-back ys _)
+
+-- reading a counted list: how many pieces it has, and each of them
+module _ {X : Type 0} (read : List ℕ → X) (size most : ℕ) where
+  pub count-in : (xs : List ℕ) → length (counted read size most xs) ≡ min (getD xs 0 0) most
+  count-in xs = length-chunks read size _ _
+
+  pub counted-at : (xs : List ℕ) (i : ℕ) (d : X) → i < length (counted read size most xs) → getD (counted read size most xs) i d ≡ read (drop (1 + size * i) xs)
+  counted-at xs i d h = chunk-at read size _ (drop 1 xs) i d (rw count-in at h) ∙ ap read (drop-drop (size * i) 1 xs)

@@ -4,18 +4,17 @@ use mathlib.Core.Path.{_≡_, refl, _∙_, ap}
 use Prim.Native.Nat.{ℕ, _+_, _*_, _≤_, _<_, min}
 use native.Mathlib.Omega.{arith}
 use lib.ListN.{length, getD, drop}
-use Rattle.std.proofs.shelf.Lists.{drop-drop, getD-drop}
+use Rattle.std.proofs.shelf.Lists.{getD-drop}
 use Rattle.script.specs.Layout.{line-size, max-lines, script-size}
 use Rattle.script.specs.Rows.{first-line, line-at, line-out, script-in, script-out}
 use Rattle.script.specs.declared.line.Line.{Line}
 use Rattle.script.specs.declared.line.Line.the-variants.{Ask, AskAt, Number, Sum, Unless, Give}
-use Rattle.rows.proofs.Chunks.{chunk-at, length-chunks}
-use Rattle.rows.proofs.Counted.{counted-back, length-counted}
+use Rattle.rows.proofs.Counted.{count-in, counted-at, counted-back, length-counted}
 use Rattle.rows.proofs.Written.{getD-written}
 use Rattle.rows.specs.Rows.{written-at}
 
 pub length-script : (xs : List ℕ) → length (script-in xs) ≡ min (getD xs 0 0) max-lines
-length-script xs = length-chunks first-line line-size _ _
+length-script xs = count-in first-line line-size max-lines xs
 
 pub script-short : (xs : List ℕ) → length (script-in xs) ≤ max-lines
 script-short xs = rw length-script (omega arith)
@@ -29,7 +28,7 @@ line-drop xs n at =
 
 pub script-at : (xs : List ℕ) (i : ℕ) (d : Line) → i < length (script-in xs) → getD (script-in xs) i d ≡ line-at xs (1 + line-size * i)
 script-at xs i d h =
-    chunk-at first-line line-size _ (drop 1 xs) i d (rw length-script at h) ∙ ap first-line (drop-drop (line-size * i) 1 xs) ∙ line-drop xs (1 + line-size * i) 0 ∙ ap (line-at xs) (omega arith)
+    counted-at first-line line-size max-lines xs i d h ∙ line-drop xs (1 + line-size * i) 0 ∙ ap (line-at xs) (omega arith)
 
 -- what is written of a line stands for it
 pub line-back : (l : Line) → line-at (line-out l) 0 ≡ l
