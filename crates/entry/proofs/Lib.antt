@@ -1,1 +1,3 @@
+pub mod Askings
+pub mod Forms
 pub mod Replays

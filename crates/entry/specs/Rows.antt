@@ -1,10 +1,12 @@
 -- How an entry stands in its row of numbers: its script, its askings, its result. Assumes nothing: these are definitions.
 use mathlib.Core.List.{List, [], _∷_, _++_}
+use mathlib.Core.Path.{_≡_}
 use Prim.Native.Nat.{ℕ, _≤_}
 use lib.ListN.{length, getD, drop}
 use Rattle.rows.specs.Rows.{counted, counted-out}
 use Rattle.script.specs.Layout.{max-askings, max-lines, script-size}
 use Rattle.script.specs.Rows.{script-in, script-out}
+use Rattle.script.specs.Rule.{Value}
 use Rattle.entry.specs.Entry.{Entry}
 use Rattle.entry.specs.Layout.{asking-size, result-at}
 use Rattle.entry.specs.declared.asking.Asking.{Asking}
@@ -22,8 +24,12 @@ askings-in xs = counted first-asking asking-size max-askings xs
 abbrev pub askings-out : List Asking → List ℕ
 askings-out qs = counted-out asking-out asking-size max-askings qs
 
+-- an entry from the rows of its script and its askings, and its result
+abbrev pub entry-from : List ℕ → List ℕ → Value → Entry
+entry-from script askings v = record { script = script-in script; asked = askings-in askings; result = v }
+
 abbrev pub entry-in : List ℕ → Entry
-entry-in xs = record { script = script-in xs; asked = askings-in (drop script-size xs); result = getD xs result-at 0 }
+entry-in xs = entry-from xs (drop script-size xs) (getD xs result-at 0)
 
 -- what an entry does not use of its row is 0
 abbrev pub entry-out : Entry → List ℕ
@@ -32,3 +38,7 @@ entry-out e = script-out (e .script) ++ (askings-out (e .asked) ++ (e .result �
 -- the entry has no more lines and askings than its row has room for
 abbrev pub Fitting : Entry → Type 0
 Fitting e = (length (e .script) ≤ max-lines) × (length (e .asked) ≤ max-askings)
+
+-- the row is as some entry is written down
+abbrev pub In-form : List ℕ → Type 0
+In-form xs = (e : Entry) × Fitting e × (xs ≡ entry-out e)

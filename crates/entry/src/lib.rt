@@ -2,6 +2,7 @@
 mod asking;
 mod honesty;
 mod layout;
+mod writing;
 
 pub use asking::Asking;
 pub use asking::asking_count;
@@ -9,3 +10,4 @@ pub use asking::asking_of;
 pub use honesty::replay;
 pub use layout::ASKINGS_SIZE;
 pub use layout::ENTRY_SIZE;
+pub use writing::write_entry;

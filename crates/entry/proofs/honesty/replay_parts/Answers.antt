@@ -1,23 +1,15 @@
-use mathlib.Core.List.{List}
 use mathlib.Core.Path.{_≡_, sym, _∙_, ap, subst}
-use Prim.Native.Nat.{ℕ, _+_, _*_, _<_, _≤_}
+use Prim.Native.Nat.{_<_, _≤_}
 use native.Mathlib.Omega.{arith}
-use lib.ListN.{length, getD, drop}
+use lib.ListN.{length}
 use Rattle.std.specs.declared.option.Option.the-variants.{Some}
 use Rattle.std.proofs.shelf.Tests.{cond-false, cond-true, eq-eqb, ne-eqb}
-use Rattle.rows.proofs.Counted.{counted-at}
-use Rattle.script.specs.Layout.{max-askings}
 use Rattle.script.specs.Machine.{rest}
 use Rattle.script.specs.Rows.{script-in}
-use Rattle.entry.specs.Layout.{asking-size}
-use Rattle.entry.specs.Rows.{askings-in, first-asking}
-use Rattle.entry.specs.declared.asking.Asking.{Asking}
+use Rattle.entry.specs.Rows.{askings-in}
+use Rattle.entry.proofs.Askings.{read-there}
 use Rattle.entry.proofs.Replays.{Replayed, asks-more, asks-other, asks-same, gives, gives-early, replayed-none}
 use Rattle.entry.proofs.honesty.replay_parts.Needs as need
-
--- what was read at its place is the asking there
-read-there : (row : List ℕ) (i : ℕ) (q : Asking) → i < length (askings-in row) → q ≡ first-asking (drop (1 + asking-size * i) row) → getD (askings-in row) i q ≡ q
-read-there row i q inside is = counted-at first-asking asking-size max-askings row i q inside ∙ sym is
 
 pub loop-index-holds : need.loop-index-holds
 loop-index-holds c = subst (Replayed _ _ _ 0) (sym (c .new-registers .ensures)) (replayed-none _ _ _)
