@@ -16,6 +16,7 @@ use Rattle.std.proofs.shelf.Ways.{tells}
 use Rattle.script.specs.Allowed.{Line-allowed, Script-allowed, first-fault, line-fault, or-else, registers-known, script-fault, skip-of}
 use Rattle.script.specs.Layout.{max-lines, max-skip}
 use Rattle.script.specs.declared.refusal.Refusal.{Refusal}
+use Rattle.script.specs.declared.refusal.Refusal.the-variants.{TooManyLines}
 use Rattle.script.specs.declared.source.SourceLine.{SourceLine}
 use Rattle.script.specs.declared.source.SourceLine.the-variants.{Known, Unknown}
 
@@ -84,3 +85,6 @@ module _ (ls : List SourceLine) (i : ℕ) (so-far : Passed ls i) where
 
   pub over : length ls ≤ i → None ≡ script-fault ls
   over h = sym (first-nil i) ∙ sym (at-drop-all (first-fault i) ls i h) ∙ so-far .same ∙ whole
+
+pub too-many : (ls : List SourceLine) → max-lines < length ls → Some TooManyLines ≡ script-fault ls
+too-many ls h = grind (arith, tells)

@@ -4,11 +4,12 @@ use mathlib.Core.List.{List, [], _∷_}
 use mathlib.Core.Path.{_≡_}
 use Prim.Native.Nat.{ℕ, suc, _≤_, _<_}
 use lib.Dec.{ltb}
-use lib.ListN.{length}
+use lib.ListN.{length, getD, drop}
 use Rattle.std.specs.shelf.Lists.{All}
 use Rattle.std.specs.declared.option.Option.{Option}
 use Rattle.std.specs.declared.option.Option.the-variants.{None, Some}
-use Rattle.script.specs.Layout.{max-lines, max-skip, register-count}
+use Rattle.rows.specs.Rows.{chunks}
+use Rattle.script.specs.Layout.{line-size, max-lines, max-skip, register-count}
 use Rattle.script.specs.Rows.{line-in}
 use Rattle.script.specs.declared.line.Line.{Line}
 use Rattle.script.specs.declared.line.Line.the-variants.{Ask, AskAt, Number, Sum, Unless, Give}
@@ -20,6 +21,13 @@ use Rattle.script.specs.declared.source.SourceLine.the-variants.{Known, Unknow
 -- four numbers from outside: a line, or a kind that no line has
 abbrev pub source-line : ℕ → ℕ → ℕ → ℕ → SourceLine
 source-line kind r a b = cond (ltb 5 kind) (Unknown kind r) (Known (line-in kind r a b))
+
+abbrev pub first-source : List ℕ → SourceLine
+first-source xs = source-line (getD xs 0 0) (getD xs 1 0) (getD xs 2 0) (getD xs 3 0)
+
+-- the lines of a row from elsewhere, as many as it says that there are
+abbrev pub sources-in : List ℕ → List SourceLine
+sources-in xs = chunks first-source line-size (getD xs 0 0) (drop 1 xs)
 
 abbrev pub known-register : ℕ → Bool
 known-register r = ltb r register-count

@@ -9,6 +9,7 @@ mod script_row;
 mod source;
 
 pub use check::check_script;
+pub use check::check_script_row;
 pub use effect::Effect;
 pub use effect::Waiting;
 pub use layout::LINE_SIZE;
@@ -20,5 +21,6 @@ pub use refusal::Refusal;
 pub use registers::Registers;
 pub use script_row::line_count;
 pub use script_row::line_of;
+pub use script_row::same_script;
 pub use script_row::write_script;
 pub use source::SourceLine;

@@ -1,9 +1,10 @@
 // A script in a row: a count of lines, and then the lines.
 ghost use Prim.Native.Nat.{_+_, _*_, _<_, _≤_};
 ghost use Rattle.script.specs.Layout.{line-size, script-size};
-ghost use Rattle.script.specs.Rows.{line-out, script-in, script-out};
+ghost use Rattle.script.specs.Rows.{line-at, line-out, script-in, script-out};
 ghost use Rattle.std.specs.Joined.{joined};
 ghost use Rattle.std.specs.Options.{Cases};
+ghost use Rattle.std.specs.Orderings.{Decides};
 ghost use lib.Dec.{eqb};
 ghost use lib.ListN.{getD, length, take};
 ghost use mathlib.Core.Bool.{cond};
@@ -13,6 +14,7 @@ use super::layout::LINE_SIZE;
 use super::layout::MAX_LINES;
 use super::layout::SCRIPT_SIZE;
 use super::line::Line;
+use super::line::LinePartialEq;
 use rows::clear_from;
 use rows::number_after;
 use rows::put_all;
@@ -57,4 +59,26 @@ fn write_lines(row: &mut [u64], script: &[u64])
     for index in 0..line_count(script) {
         Line::read(script, 1 + LINE_SIZE * index).write(row, 1 + LINE_SIZE * index);
     }
+}
+
+// Whether two scripts are the same line for line, as they are read.
+pub fn same_script(left: &[u64], right: &[u64]) -> bool
+    ensures { λ r. ⌜ Decides r (script-in (now (left .entry)) ≡ script-in (now (right .entry))) ⌝ }
+{
+    let count = line_count(left);
+    if count != line_count(right) {
+        return false;
+    }
+    for index in 0..count {
+        if !same_line(left, right, 1 + LINE_SIZE * index) {
+            return false;
+        }
+    }
+    true
+}
+
+fn same_line(left: &[u64], right: &[u64], at: usize) -> bool
+    ensures { λ r. ⌜ Decides r (line-at (now (left .entry)) at ≡ line-at (now (right .entry)) at) ⌝ }
+{
+    Line::read(left, at) == Line::read(right, at)
 }

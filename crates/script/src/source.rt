@@ -1,10 +1,11 @@
 // A line as it comes from outside, which may be no line at all, and the checks that let it in.
-ghost use Rattle.script.specs.Allowed.{line-fault, registers-known, skip-of, source-line};
+ghost use Rattle.script.specs.Allowed.{first-source, line-fault, registers-known, skip-of, source-line};
 ghost use Rattle.script.specs.Layout.{max-skip};
 ghost use Rattle.std.specs.Results.{errPart};
 ghost use Rattle.std.specs.Vec.{made};
 ghost use Rattle.std.specs.declared.option.Option.the-variants.{None, Some};
 ghost use lib.Dec.{ltb};
+ghost use lib.ListN.{drop};
 ghost use mathlib.Core.Bool.{cond};
 ghost use mathlib.Core.Path.{_≡_};
 use super::layout::MAX_SKIP;
@@ -13,6 +14,7 @@ use super::line::Line;
 use super::line::LineDebug;
 use super::line::LinePartialEq;
 use super::refusal::Refusal;
+use rows::number_after;
 
 // The highest kind that a line has.
 const LAST_KIND: u64 = 5;
@@ -36,6 +38,17 @@ impl SourceLine {
             };
         }
         SourceLine::Known(Line::from_numbers(kind, first, second, third))
+    }
+
+    // The line whose first number stands at `at` of a row from elsewhere.
+    pub fn read(row: &[u64], at: usize) -> SourceLine
+        ensures { λ r. ⌜ r ≡ first-source (drop at (now (row .entry))) ⌝ }
+    {
+        let kind = number_after(row, at, 0);
+        let first = number_after(row, at, 1);
+        let second = number_after(row, at, 2);
+        let third = number_after(row, at, 3);
+        SourceLine::from_numbers(kind, first, second, third)
     }
 
     // The line itself if it is allowed, or the first reason why it is not; `line` is its number in the script.
