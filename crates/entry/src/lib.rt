@@ -10,4 +10,5 @@ pub use asking::asking_of;
 pub use honesty::replay;
 pub use layout::ASKINGS_SIZE;
 pub use layout::ENTRY_SIZE;
+pub use layout::RESULT_AT;
 pub use writing::write_entry;

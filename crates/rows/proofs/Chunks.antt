@@ -3,11 +3,11 @@ use mathlib.Core.List.{List, [], _∷_, _++_}
 use mathlib.Core.Logic.{⊎-elim}
 use mathlib.Core.Path.{_≡_, refl, sym, _∙_, ap}
 use Prim.Native.Nat.{ℕ, zero, suc, _+_, _*_, _≤_, _<_, min}
-use native.Mathlib.Nat.{mul-zero, mul-suc}
+use native.Mathlib.Nat.{mul-suc, mul-zero, suc-add, zero-add}
 use native.Mathlib.Numerals.{add-one}
 use native.Mathlib.Omega.{arith}
-use lib.ListN.{length, getD, drop}
-use Rattle.std.proofs.shelf.Lists.{drop-all, drop-drop}
+use lib.ListN.{length, getD, take, drop}
+use Rattle.std.proofs.shelf.Lists.{drop-all, drop-drop, drop-take, take-take}
 use Rattle.std.proofs.shelf.Tests.{cases-lt}
 use Rattle.rows.specs.Rows.{chunks}
 
@@ -55,3 +55,30 @@ module _ {X : Type 0} (read : List ℕ → X) (size : ℕ) where
   -- the same where the pieces so far and the new one are known by equations
   pub chunks-push : (n : ℕ) (xs : List ℕ) {ys zs : List X} {x : X} → ys ≡ chunks read size n xs → x ≡ read (drop (size * n) xs) → zs ≡ ys ++ x ∷ [] → zs ≡ chunks read size (n + 1) xs
   chunks-push n xs so-far is pushed = rw (pushed, so-far, is, chunks-more)
+
+  -- the pieces of two parts, one behind the other
+  pub chunks-split : (n m : ℕ) (xs : List ℕ) → chunks read size (n + m) xs ≡ chunks read size n xs ++ chunks read size m (drop (size * n) xs)
+  unfolding chunks
+  chunks-split zero m xs = rw (zero-add m, front xs) refl
+  chunks-split (suc n) m xs =
+      rw suc-add (ap (λ ys. read xs ∷ ys) (chunks-split n m (drop size xs) ∙ ap (λ ys. chunks read size n (drop size xs) ++ chunks read size m ys) (behind n xs)))
+
+-- pieces that are read from their own numbers alone
+module _ {X : Type 0} (read : List ℕ → X) (size : ℕ) (local : (xs : List ℕ) → read xs ≡ read (take size xs)) where
+  same-read : (xs ys : List ℕ) → take size xs ≡ take size ys → read xs ≡ read ys
+  same-read xs ys e = local xs ∙ ap read e ∙ sym (local ys)
+
+  -- rows that begin alike have the same pieces there
+  pub chunks-same : (n : ℕ) (xs ys : List ℕ) → take (size * n) xs ≡ take (size * n) ys → chunks read size n xs ≡ chunks read size n ys
+  unfolding chunks
+  chunks-same zero xs ys e = refl
+  chunks-same (suc n) xs ys e =
+      let more : size * suc n ≡ size + size * n = omega (arith, mul-suc size n) in
+      let first : take size xs ≡ take size ys = sym (take-take size (size * suc n) xs (omega arith)) ∙ ap (take size) e ∙ take-take size (size * suc n) ys (omega arith) in
+      let later : take (size * n) (drop size xs) ≡ take (size * n) (drop size ys) =
+      sym (drop-take size (size * n) xs) ∙ ap (λ k. drop size (take k xs)) (sym more) ∙ ap (drop size) e ∙ ap (λ k. drop size (take k ys)) more ∙ drop-take size (size * n) ys in
+      (λ i. same-read xs ys first i ∷ chunks-same n (drop size xs) (drop size ys) later i)
+
+  -- so the pieces are those of the row's beginning
+  pub chunks-take : (n m : ℕ) (xs : List ℕ) → size * n ≤ m → chunks read size n xs ≡ chunks read size n (take m xs)
+  chunks-take n m xs h = chunks-same n xs (take m xs) (sym (take-take (size * n) m xs h))

@@ -1,0 +1,11 @@
+// The store of entries in its row: adding, importing, removing, and the room for them.
+mod adding;
+mod check;
+mod layout;
+mod removing;
+
+pub use adding::add_entry;
+pub use adding::import_entry;
+pub use check::check_entry;
+pub use check::check_store;
+pub use removing::remove_entry;
