@@ -7,7 +7,7 @@ use native.Mathlib.Nat.{mul-suc, mul-zero, suc-add, zero-add}
 use native.Mathlib.Numerals.{add-one}
 use native.Mathlib.Omega.{arith}
 use lib.ListN.{length, getD, take, drop}
-use Rattle.std.proofs.shelf.Lists.{drop-all, drop-drop, drop-take, take-take}
+use Rattle.std.proofs.shelf.Lists.{drop-all, drop-at, drop-drop, drop-take, take-at, take-take}
 use Rattle.std.proofs.shelf.Tests.{cases-lt}
 use Rattle.rows.specs.Rows.{chunks}
 
@@ -62,6 +62,12 @@ module _ {X : Type 0} (read : List ℕ → X) (size : ℕ) where
   chunks-split zero m xs = rw (zero-add m, front xs) refl
   chunks-split (suc n) m xs =
       rw suc-add (ap (λ ys. read xs ∷ ys) (chunks-split n m (drop size xs) ∙ ap (λ ys. chunks read size n (drop size xs) ++ chunks read size m ys) (behind n xs)))
+
+  pub take-chunks : (n m : ℕ) (xs : List ℕ) → take n (chunks read size (n + m) xs) ≡ chunks read size n xs
+  take-chunks n m xs = ap (take n) (chunks-split n m xs) ∙ take-at _ _ n (length-chunks n xs)
+
+  pub drop-chunks : (n m : ℕ) (xs : List ℕ) → drop n (chunks read size (n + m) xs) ≡ chunks read size m (drop (size * n) xs)
+  drop-chunks n m xs = ap (drop n) (chunks-split n m xs) ∙ drop-at _ _ n (length-chunks n xs)
 
 -- pieces that are read from their own numbers alone
 module _ {X : Type 0} (read : List ℕ → X) (size : ℕ) (local : (xs : List ℕ) → read xs ≡ read (take size xs)) where

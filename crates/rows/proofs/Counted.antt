@@ -7,9 +7,9 @@ use native.Mathlib.Numerals.{add-one}
 use native.Mathlib.Omega.{arith}
 use lib.ListN.{length, getD, take, drop, replicate}
 use Rattle.std.specs.Joined.{joined}
-use Rattle.std.proofs.shelf.Lists.{append-assoc, append-nil, drop-at, drop-drop, joined-more, length-append, length-replicate, take-all, take-more}
+use Rattle.std.proofs.shelf.Lists.{append-assoc, append-nil, drop-at, drop-drop, drop-take, getD-take, joined-more, length-append, length-replicate, take-all, take-more}
 use Rattle.rows.specs.Rows.{chunks, counted, counted-out, padded, written-at}
-use Rattle.rows.proofs.Chunks.{chunk-at, length-chunks}
+use Rattle.rows.proofs.Chunks.{chunk-at, chunks-take, length-chunks}
 use Rattle.rows.proofs.Written.{length-written, take-written}
 
 module _ {X : Type 0} (out : X → List ℕ) (size : ℕ) (each : (y : X) → length (out y) ≡ size) where
@@ -79,3 +79,13 @@ module _ {X : Type 0} (read : List ℕ → X) (size most : ℕ) where
 
   pub counted-at : (xs : List ℕ) (i : ℕ) (d : X) → i < length (counted read size most xs) → getD (counted read size most xs) i d ≡ read (drop (1 + size * i) xs)
   counted-at xs i d h = chunk-at read size _ (drop 1 xs) i d (rw count-in at h) ∙ ap read (drop-drop (size * i) 1 xs)
+
+  -- a counted list is read from as many numbers as it has room for
+  pub counted-take : ((xs : List ℕ) → read xs ≡ read (take size xs)) → (m : ℕ) (xs : List ℕ) → 1 + size * most ≤ m → counted read size most xs ≡ counted read size most (take m xs)
+  counted-take local m xs h =
+      let n = min (getD xs 0 0) most in
+      let inside : size * n ≤ size * most = mul-le-mul-left size (omega arith) in
+      let back : 1 + (m - 1) ≡ m = omega arith in
+      let first : getD (take m xs) 0 0 ≡ getD xs 0 0 = getD-take m xs 0 0 (omega arith) in
+      let behind : drop 1 (take m xs) ≡ take (m - 1) (drop 1 xs) = ap (λ k. drop 1 (take k xs)) (sym back) ∙ drop-take 1 (m - 1) xs in
+      chunks-take read size local n (m - 1) (drop 1 xs) (omega arith) ∙ rw (first, behind) refl
