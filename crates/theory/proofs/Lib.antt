@@ -1,9 +1,15 @@
 pub mod Along
+pub mod Askings
 pub mod Bound
+pub mod Builds
+pub mod Edits
 pub mod Entries
+pub mod Left
 pub mod Needs
 pub mod Outs
 pub mod Rings
+pub mod Rising
+pub mod Saved
 pub mod Sound
 pub mod Stuck
 pub mod Values

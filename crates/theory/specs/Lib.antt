@@ -4,3 +4,4 @@ pub mod Rings
 pub mod Along
 pub mod Build
 pub mod Laws
+pub mod BuildLaws

@@ -1,4 +1,5 @@
-// The theory of values, runs, reach and rings. Its statements stand in the definitions; this function owes their proofs.
+// The theory of values, runs, reach and rings, and of builds over a store. Its statements stand in the definitions; these functions owe their proofs.
+ghost use Rattle.theory.specs.BuildLaws.{Cut-short, Few-askings, One-build, Second-runs-nothing, Stays-honest, Stays-within};
 ghost use Rattle.theory.specs.Laws.{Bound-enough, Honest-usable, Looks-no-further, No-new-ring, One-value, Ring-exactly};
 
 pub fn laws() -> u8
@@ -8,6 +9,17 @@ pub fn laws() -> u8
     ensures looks_no_further { λ _. ⌜ Looks-no-further ⌝ }
     ensures no_new_ring { λ _. ⌜ No-new-ring ⌝ }
     ensures ring_exactly { λ _. ⌜ Ring-exactly ⌝ }
+{
+    0
+}
+
+pub fn build_laws() -> u8
+    ensures one_build { λ _. ⌜ One-build ⌝ }
+    ensures second_runs_nothing { λ _. ⌜ Second-runs-nothing ⌝ }
+    ensures cut_short { λ _. ⌜ Cut-short ⌝ }
+    ensures stays_honest { λ _. ⌜ Stays-honest ⌝ }
+    ensures stays_within { λ _. ⌜ Stays-within ⌝ }
+    ensures few_askings { λ _. ⌜ Few-askings ⌝ }
 {
     0
 }
