@@ -11,7 +11,7 @@ use Rattle.theory.specs.Build.{Each-left, In, Left, Usable, and-one, here, no-
 use Rattle.theory.specs.Clean.{Runs}
 use Rattle.theory.specs.Items.{Item}
 use Rattle.theory.proofs.Entries.{runs-replays, runs-right}
-use Rattle.theory.proofs.Rising.{in-none}
+use Rattle.theory.proofs.Members.{in-none}
 use Rattle.theory.proofs.Values.{made-one, runs-unique}
 
 same-entry : (e f : Entry) → e .script ≡ f .script → e .asked ≡ f .asked → e .result ≡ f .result → e ≡ f

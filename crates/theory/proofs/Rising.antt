@@ -1,17 +1,11 @@
 -- A rising list is known by its members. Assumes nothing.
 use mathlib.Core.List.{List, [], _∷_}
-use mathlib.Core.Logic.{_⊎_, inl, inr, ⊎-elim}
+use mathlib.Core.Logic.{⊎-elim}
 use mathlib.Core.Path.{_≡_, refl, sym}
 use Prim.Native.Nat.{ℕ, _<_}
 use native.Mathlib.Omega.{arith}
 use Rattle.theory.specs.Build.{In, Rising, here, more, none, one, there}
-
-pub in-none : {j : ℕ} → In j [] → ⊥
-in-none i = elim i [ ]
-
-pub in-cases : {j k : ℕ} {ks : List ℕ} → In j (k ∷ ks) → (j ≡ k) ⊎ In j ks
-in-cases here = inl refl
-in-cases (there i) = inr i
+use Rattle.theory.proofs.Members.{in-cases, in-none}
 
 pub rising-tail : {j : ℕ} {js : List ℕ} → Rising (j ∷ js) → Rising js
 rising-tail one = none

@@ -8,6 +8,7 @@ use Rattle.entry.specs.Entry.{All-honest, Entry, Honest}
 use Rattle.theory.specs.Build.{Built, In}
 use Rattle.theory.specs.Clean.{Makes, Out, Reached}
 use Rattle.theory.specs.Items.{Item}
+use Rattle.theory.specs.Reference.{built-of}
 
 -- answer, list and store after a build are each one
 abbrev pub One-build : Type 0
@@ -45,3 +46,13 @@ Stays-within =
 -- an honest entry names at most as many askings as its script has lines
 abbrev pub Few-askings : Type 0
 Few-askings = (e : Entry) → Honest e → length (e .asked) ≤ length (e .script)
+
+-- every build has an outcome
+abbrev pub Builds-exist : Type 0
+Builds-exist = (d : List Item) (es : List Entry) (room k : ℕ) → (o : Out) × (ran : List ℕ) × (fs : List Entry) × Built d es room k o ran fs
+
+-- the build that computes gives it
+abbrev pub Reference-fits : Type 0
+Reference-fits =
+    (d : List Item) (es : List Entry) (room k : ℕ) →
+    Built d es room k (built-of d es room k .answer) (built-of d es room k .ran) (built-of d es room k .store)
