@@ -1,8 +1,8 @@
 -- Where the build with its bound finds no value, some item that is looked at needs itself. Assumes nothing.
 use mathlib.Core.Bool.{Bool, true, false}
-use mathlib.Core.List.{List, [], _∷_}
+use mathlib.Core.List.{List}
 use mathlib.Core.Logic.{⊎-elim}
-use mathlib.Core.Path.{_≡_, refl, sym, _∙_, ap, subst}
+use mathlib.Core.Path.{_≡_, sym, _∙_, subst}
 use Prim.Native.Nat.{ℕ, zero, suc, _+_, _<_}
 use native.Mathlib.Omega.{arith}
 use lib.ListN.{length, getD, set, replicate, length-replicate, length-set}
@@ -12,36 +12,13 @@ use Rattle.script.specs.Rule.{Script}
 use Rattle.theory.specs.Clean.{Reached, clean, deep, itself, on, ring}
 use Rattle.theory.specs.Items.{Item, item, made, written}
 use Rattle.theory.specs.Rings.{Needs, by-way, directly}
+use Rattle.theory.proofs.Marks.{free, free-all, free-less, none-set}
 use Rattle.theory.proofs.Sound.{deep-stuck}
 use Rattle.theory.proofs.Values.{written-made}
 
 -- an item that is made is there
 pub made-there : (d : List Item) (k : ℕ) {s : Script} → item d k ≡ made s → k < length d
 made-there d k is = ⊎-elim (λ h. h) (λ past. absurd (written-made (getD-past d k (written 0) past) is)) (cases-lt k (length d))
-
--- how many marks are not set
-free : List Bool → ℕ
-free [] = 0
-free (true ∷ ms) = free ms
-free (false ∷ ms) = suc (free ms)
-
-free-all : (n : ℕ) → free (replicate n false) ≡ n
-unfolding free
-free-all zero = refl
-free-all (suc n) = ap suc (free-all n)
-
-none-set : (n x : ℕ) → getD (replicate n false) x false ≡ false
-none-set zero x = refl
-none-set (suc n) zero = refl
-none-set (suc n) (suc x) = none-set n x
-
-free-less : (ms : List Bool) (k : ℕ) → k < length ms → getD ms k false ≡ false → suc (free (set ms k true)) ≡ free ms
-unfolding free
-free-less [] k h e = absurd (omega arith)
-free-less (true ∷ ms) zero h e = absurd (both-ways true e refl)
-free-less (false ∷ ms) zero h e = refl
-free-less (true ∷ ms) (suc k) h e = free-less ms k (omega arith) e
-free-less (false ∷ ms) (suc k) h e = ap suc (free-less ms k (omega arith) e)
 
 module _ (d : List Item) (top : ℕ) where
   -- from item to item that has no value, marking each; a marked one is met again before the marks or the depth run out
@@ -56,7 +33,7 @@ module _ (d : List Item) (top : ℕ) where
       (λ new.
       met-again n (set ms k true) j
       (length-set ms k true ∙ same)
-      (omega (arith, free-less ms k (rw same (made-there d k is)) new))
+      (omega (arith, free-less ms k false (rw same (made-there d k is)) new))
       (λ x marked.
       ⊎-elim
       (λ here. subst (λ y. Needs d y j) (sym here) (directly is asked))

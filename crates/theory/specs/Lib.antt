@@ -3,4 +3,10 @@ pub mod Clean
 pub mod Rings
 pub mod Along
 pub mod Build
+pub mod Traces
+pub mod Looked
+pub mod Same
+pub mod Reference
 pub mod Laws
+pub mod BuildLaws
+pub mod Worked
