@@ -3,8 +3,9 @@ use mathlib.Core.List.{List, [], _∷_, _++_}
 use mathlib.Core.Path.{_≡_, refl, sym, _∙_, ap}
 use Prim.Native.Nat.{ℕ, _+_, _*_, _≤_, _<_}
 use native.Mathlib.Omega.{arith}
-use lib.ListN.{length, getD, drop}
-use Rattle.rows.proofs.Counted.{count-in, counted-at, counted-back, length-counted}
+use lib.ListN.{length, getD, take, drop}
+use Rattle.std.proofs.shelf.Lists.{getD-take}
+use Rattle.rows.proofs.Counted.{count-in, counted-at, counted-back, counted-take, length-counted}
 use Rattle.script.specs.Layout.{max-askings, script-size}
 use Rattle.entry.specs.Layout.{asking-size, askings-size}
 use Rattle.entry.specs.Rows.{asking-out, askings-in, askings-out, first-asking}
@@ -29,3 +30,13 @@ askings-back qs more few = counted-back asking-out asking-size length-asking fir
 
 pub length-askings-out : (qs : List Asking) → length qs ≤ max-askings → length (askings-out qs) ≡ askings-size
 length-askings-out qs few = length-counted asking-out asking-size length-asking max-askings qs few
+
+-- an asking is read from its own two numbers, and askings from as many as they have room for
+first-local : (xs : List ℕ) → first-asking xs ≡ first-asking (take asking-size xs)
+first-local xs =
+    let of = sym (getD-take asking-size xs 0 0 (omega arith)) in
+    let answer = sym (getD-take asking-size xs 1 0 (omega arith)) in
+    λ i. record { item = of i; answer = answer i }
+
+pub askings-take : (m : ℕ) (xs : List ℕ) → askings-size ≤ m → askings-in xs ≡ askings-in (take m xs)
+askings-take m xs h = counted-take first-asking asking-size max-askings first-local m xs h

@@ -3,13 +3,13 @@ use mathlib.Core.List.{List, _++_}
 use mathlib.Core.Path.{_≡_, refl, _∙_, ap}
 use Prim.Native.Nat.{ℕ, _+_, _*_, _≤_, _<_, min}
 use native.Mathlib.Omega.{arith}
-use lib.ListN.{length, getD, drop}
-use Rattle.std.proofs.shelf.Lists.{getD-drop}
+use lib.ListN.{length, getD, take, drop}
+use Rattle.std.proofs.shelf.Lists.{getD-drop, getD-take}
 use Rattle.script.specs.Layout.{line-size, max-lines, script-size}
 use Rattle.script.specs.Rows.{first-line, line-at, line-out, script-in, script-out}
 use Rattle.script.specs.declared.line.Line.{Line}
 use Rattle.script.specs.declared.line.Line.the-variants.{Ask, AskAt, Number, Sum, Unless, Give}
-use Rattle.rows.proofs.Counted.{count-in, counted-at, counted-back, length-counted}
+use Rattle.rows.proofs.Counted.{count-in, counted-at, counted-back, counted-take, length-counted}
 use Rattle.rows.proofs.Written.{getD-written}
 use Rattle.rows.specs.Rows.{written-at}
 
@@ -69,3 +69,12 @@ script-back s more few = counted-back line-out line-size length-line first-line 
 
 pub length-script-out : (s : List Line) → length s ≤ max-lines → length (script-out s) ≡ script-size
 length-script-out s few = length-counted line-out line-size length-line max-lines s few
+
+-- a line is read from its own four numbers, and a script from as many as it has room for
+first-local : (xs : List ℕ) → first-line xs ≡ first-line (take line-size xs)
+first-local xs =
+    let same : (j : ℕ) → j < line-size → getD (take line-size xs) j 0 ≡ getD xs j 0 = λ j h. getD-take line-size xs j 0 h in
+    rw (same 0 (omega arith), same 1 (omega arith), same 2 (omega arith), same 3 (omega arith)) refl
+
+pub script-take : (m : ℕ) (xs : List ℕ) → script-size ≤ m → script-in xs ≡ script-in (take m xs)
+script-take m xs h = counted-take first-line line-size max-lines first-local m xs h

@@ -37,6 +37,10 @@ entry-fault xs = or-else (script-fault (sources-in xs)) (or-else (askings-fault 
 abbrev pub add-fault : List ℕ → Option Refusal
 add-fault rows = or-else (full-fault rows) (store-fault rows)
 
+-- an entry that is allowed is turned away if it does not replay, and then for want of room
+abbrev pub admit-fault : List ℕ → List ℕ → Option Refusal
+admit-fault rows xs = or-else (replay-fault xs) (add-fault rows)
+
 abbrev pub import-fault : List ℕ → List ℕ → Option Refusal
 import-fault rows xs = or-else (entry-fault xs) (add-fault rows)
 

@@ -1,6 +1,7 @@
 -- How a store stands in its row: the count kept, the room, and then the entries. Assumes nothing: these are definitions.
 use mathlib.Core.List.{List, [], _∷_, _++_}
-use Prim.Native.Nat.{ℕ, _+_, _-_, _*_}
+use mathlib.Core.Path.{_≡_}
+use Prim.Native.Nat.{ℕ, _+_, _-_, _*_, _≤_}
 use lib.ListN.{getD, set, take, drop, replicate}
 use Rattle.rows.specs.Rows.{chunks}
 use Rattle.entry.specs.Entry.{Entry}
@@ -31,3 +32,18 @@ removed rows i =
     (take (entry-at i) rows
     ++ (take (entry-size * (count-of rows - 1 - i)) (drop (entry-at (i + 1)) rows) ++ (replicate entry-size 0 ++ drop (entry-at (count-of rows)) rows)))
     0 (count-of rows - 1)
+
+abbrev pub without : {X : Type 0} → List X → ℕ → List X
+without xs i = take i xs ++ drop (i + 1) xs
+
+-- the store holds one entry more, at its end, and still no more than it has room for
+pub record Grown (rows rows₁ : List ℕ) (e : Entry) : Type 0 where
+  pub entries : entries-in rows₁ ≡ entries-in rows ++ e ∷ []
+  pub room : room-of rows₁ ≡ room-of rows
+  pub within : count-of rows₁ ≤ room-of rows₁
+
+-- the store holds all but entry i, and no more than it has room for
+pub record Shrunk (rows rows₁ : List ℕ) (i : ℕ) : Type 0 where
+  pub entries : entries-in rows₁ ≡ without (entries-in rows) i
+  pub room : room-of rows₁ ≡ room-of rows
+  pub within : count-of rows₁ ≤ room-of rows₁

@@ -51,7 +51,7 @@ pub fn check_entry(entry: &[u64]) -> Result<(), Refusal>
     check_replay(entry)
 }
 
-fn check_asking_count(entry: &[u64]) -> Result<(), Refusal>
+pub fn check_asking_count(entry: &[u64]) -> Result<(), Refusal>
     ensures { λ r. ⌜ errPart r ≡ askings-fault (now (entry .entry)) ⌝ }
 {
     if number_after(entry, SCRIPT_SIZE, 0) > MAX_ASKINGS as u64 {
@@ -60,7 +60,7 @@ fn check_asking_count(entry: &[u64]) -> Result<(), Refusal>
     Ok(())
 }
 
-fn check_replay(entry: &[u64]) -> Result<(), Refusal>
+pub fn check_replay(entry: &[u64]) -> Result<(), Refusal>
     ensures { λ r. ⌜ errPart r ≡ replay-fault (now (entry .entry)) ⌝ }
 {
     match replay(entry) {

@@ -5,6 +5,7 @@ mod layout;
 mod removing;
 
 pub use adding::add_entry;
+pub use adding::admit_entry;
 pub use adding::import_entry;
 pub use check::check_entry;
 pub use check::check_store;

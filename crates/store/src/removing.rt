@@ -3,7 +3,8 @@ ghost use Prim.Native.Nat.{_+_, _-_, _<_, _≤_};
 ghost use Rattle.entry.specs.Layout.{entry-size};
 ghost use Rattle.std.specs.Results.{errPart, isOk};
 ghost use Rattle.store.specs.Faults.{remove-fault};
-ghost use Rattle.store.specs.Rows.{count-of, entry-at, removed};
+ghost use Rattle.std.specs.Vec.{made};
+ghost use Rattle.store.specs.Rows.{Shrunk, count-of, entry-at, removed};
 ghost use lib.ListN.{drop, length};
 ghost use lib.Seq.{paste};
 ghost use mathlib.Core.Bool.{cond};
@@ -16,6 +17,14 @@ use rows::number_after;
 use script::Refusal;
 
 pub fn remove_entry(rows: &mut [u64], index: u64) -> Result<(), Refusal>
+    ensures fault { λ r. ⌜ errPart r ≡ remove-fault (now (rows .entry)) index ⌝ }
+    ensures after { λ r. ⌜ now (rows .exit) ≡ cond (isOk r) (removed (now (rows .entry)) index) (now (rows .entry)) ⌝ }
+    ensures shrunk { λ r. ⌜ made r (λ _. Shrunk (now (rows .entry)) (now (rows .exit)) index) ⌝ }
+{
+    remove_checked(rows, index)
+}
+
+fn remove_checked(rows: &mut [u64], index: u64) -> Result<(), Refusal>
     ensures fault { λ r. ⌜ errPart r ≡ remove-fault (now (rows .entry)) index ⌝ }
     ensures after { λ r. ⌜ now (rows .exit) ≡ cond (isOk r) (removed (now (rows .entry)) index) (now (rows .entry)) ⌝ }
 {
