@@ -1,3 +1,4 @@
 pub mod Askings
 pub mod Forms
+mod Laid
 pub mod Replays

@@ -1,12 +1,14 @@
 -- How an entry stands in its row of numbers: its script, its askings, its result. Assumes nothing: these are definitions.
-use mathlib.Core.List.{List, [], _∷_, _++_}
+use mathlib.Core.List.{List, [], _∷_, _++_, map}
 use mathlib.Core.Path.{_≡_}
 use Prim.Native.Nat.{ℕ, _≤_}
 use lib.ListN.{length, getD, drop}
 use Rattle.rows.specs.Rows.{counted, counted-out}
+use Rattle.script.specs.Allowed.{counted-as}
 use Rattle.script.specs.Layout.{max-askings, max-lines, script-size}
 use Rattle.script.specs.Rows.{script-in, script-out}
 use Rattle.script.specs.Rule.{Value}
+use Rattle.script.specs.declared.source.SourceLine.{SourceLine}
 use Rattle.entry.specs.Entry.{Entry}
 use Rattle.entry.specs.Layout.{asking-size, result-at}
 use Rattle.entry.specs.declared.asking.Asking.{Asking}
@@ -27,6 +29,10 @@ askings-out qs = counted-out asking-out asking-size max-askings qs
 -- an entry from the rows of its script and its askings, and its result
 abbrev pub entry-from : List ℕ → List ℕ → Value → Entry
 entry-from script askings v = record { script = script-in script; asked = askings-in askings; result = v }
+
+-- an entry from outside, by its parts
+abbrev pub entry-of : List SourceLine → List Asking → Value → Entry
+entry-of lines askings v = record { script = map counted-as lines; asked = askings; result = v }
 
 abbrev pub entry-in : List ℕ → Entry
 entry-in xs = entry-from xs (drop script-size xs) (getD xs result-at 0)

@@ -2,6 +2,7 @@
 mod asking;
 mod honesty;
 mod layout;
+mod parts;
 mod writing;
 
 pub use asking::Asking;
@@ -11,4 +12,5 @@ pub use honesty::replay;
 pub use layout::ASKINGS_SIZE;
 pub use layout::ENTRY_SIZE;
 pub use layout::RESULT_AT;
+pub use parts::write_from_parts;
 pub use writing::write_entry;

@@ -22,6 +22,11 @@ use Rattle.script.specs.declared.source.SourceLine.the-variants.{Known, Unknow
 abbrev pub source-line : ℕ → ℕ → ℕ → ℕ → SourceLine
 source-line kind r a b = cond (ltb 5 kind) (Unknown kind r) (Known (line-in kind r a b))
 
+-- a line of an unknown kind counts as kind 5
+abbrev pub counted-as : SourceLine → Line
+counted-as (Known l) = l
+counted-as (Unknown kind r) = Give r
+
 abbrev pub first-source : List ℕ → SourceLine
 first-source xs = source-line (getD xs 0 0) (getD xs 1 0) (getD xs 2 0) (getD xs 3 0)
 

@@ -23,4 +23,5 @@ pub use script_row::line_count;
 pub use script_row::line_of;
 pub use script_row::same_script;
 pub use script_row::write_script;
+pub use script_row::write_source;
 pub use source::SourceLine;

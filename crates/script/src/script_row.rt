@@ -1,20 +1,22 @@
 // A script in a row: a count of lines, and then the lines.
 ghost use Prim.Native.Nat.{_+_, _*_, _<_, _≤_};
-ghost use Rattle.script.specs.Layout.{line-size, script-size};
+ghost use Rattle.script.specs.Allowed.{counted-as};
+ghost use Rattle.script.specs.Layout.{line-size, max-lines, script-size};
 ghost use Rattle.script.specs.Rows.{line-at, line-out, script-in, script-out};
 ghost use Rattle.std.specs.Joined.{joined};
 ghost use Rattle.std.specs.Options.{Cases};
 ghost use Rattle.std.specs.Orderings.{Decides};
-ghost use lib.Dec.{eqb};
+ghost use lib.Dec.{eqb, leb};
 ghost use lib.ListN.{getD, length, take};
-ghost use mathlib.Core.Bool.{cond};
-ghost use mathlib.Core.List.{_++_};
+ghost use mathlib.Core.Bool.{_&&_, cond};
+ghost use mathlib.Core.List.{_++_, map};
 ghost use mathlib.Core.Path.{_≡_};
 use super::layout::LINE_SIZE;
 use super::layout::MAX_LINES;
 use super::layout::SCRIPT_SIZE;
 use super::line::Line;
 use super::line::LinePartialEq;
+use super::source::SourceLine;
 use rows::clear_from;
 use rows::number_after;
 use rows::put_all;
@@ -58,6 +60,36 @@ fn write_lines(row: &mut [u64], script: &[u64])
 {
     for index in 0..line_count(script) {
         Line::read(script, 1 + LINE_SIZE * index).write(row, 1 + LINE_SIZE * index);
+    }
+}
+
+// Writes lines from outside into a row of their own, each as it counts; a row of another size, or for more lines than a script has, is left as it was.
+pub fn write_source(row: &mut [u64], lines: &[SourceLine])
+    ensures { λ _. ⌜ now (row .exit) ≡ cond (eqb (length (now (row .entry))) script-size && leb (length (now (lines .entry))) max-lines) (script-out (map counted-as (now (lines .entry)))) (now (row .entry)) ⌝ }
+{
+    if row.len() == SCRIPT_SIZE && lines.len() <= MAX_LINES {
+        write_source_whole(row, lines);
+    }
+}
+
+fn write_source_whole(row: &mut [u64], lines: &[SourceLine])
+    requires long { ⌜ length (now row) ≡ script-size ⌝ }
+    requires few { ⌜ length (now lines) ≤ max-lines ⌝ }
+    ensures { λ _. ⌜ now (row .exit) ≡ script-out (map counted-as (now (lines .entry))) ⌝ }
+{
+    put_all(row, 0, &[lines.len() as u64]);
+    write_source_lines(row, lines);
+    clear_from(row, 1 + LINE_SIZE * lines.len());
+}
+
+// Writes the lines behind the row's first number.
+fn write_source_lines(row: &mut [u64], lines: &[SourceLine])
+    requires long { ⌜ length (now row) ≡ script-size ⌝ }
+    requires few { ⌜ length (now lines) ≤ max-lines ⌝ }
+    ensures { λ _. ⌜ take (1 + line-size * length (map counted-as (now (lines .entry)))) (now (row .exit)) ≡ take 1 (now (row .entry)) ++ joined line-out (map counted-as (now (lines .entry))) ⌝ }
+{
+    for (index, line) in lines.iter().enumerate() {
+        line.line().write(row, 1 + LINE_SIZE * index);
     }
 }
 

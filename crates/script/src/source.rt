@@ -1,5 +1,5 @@
 // A line as it comes from outside, which may be no line at all, and the checks that let it in.
-ghost use Rattle.script.specs.Allowed.{first-source, line-fault, registers-known, skip-of, source-line};
+ghost use Rattle.script.specs.Allowed.{counted-as, first-source, line-fault, registers-known, skip-of, source-line};
 ghost use Rattle.script.specs.Layout.{max-skip};
 ghost use Rattle.std.specs.Results.{errPart};
 ghost use Rattle.std.specs.Vec.{made};
@@ -49,6 +49,16 @@ impl SourceLine {
         let second = number_after(row, at, 2);
         let third = number_after(row, at, 3);
         SourceLine::from_numbers(kind, first, second, third)
+    }
+
+    // The line that it counts as where it is run.
+    pub fn line(self) -> Line
+        ensures { λ r. ⌜ r ≡ counted-as self ⌝ }
+    {
+        match self {
+            SourceLine::Known(line) => line,
+            SourceLine::Unknown { register, .. } => Line::Give { register },
+        }
     }
 
     // The line itself if it is allowed, or the first reason why it is not; `line` is its number in the script.
