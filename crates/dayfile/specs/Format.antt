@@ -12,7 +12,7 @@ use Rattle.script.specs.declared.source.SourceLine.{SourceLine}
 use Rattle.house.specs.Deeds.{Deed, write, give, build, forget, bring}
 use Rattle.entry.specs.declared.asking.Asking.{Asking}
 use Rattle.house.specs.declared.size.HouseSize.{HouseSize}
-use Rattle.dayfile.specs.Bytes.{low-first}
+use Rattle.bytes.specs.Bytes.{low-first}
 
 abbrev pub byte : List ℕ → ℕ → ℕ
 byte bs at = getD bs at 0

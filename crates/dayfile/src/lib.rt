@@ -1,5 +1,4 @@
 // Reads the bytes of a day's file.
-mod bytes;
 mod command;
 mod day;
 mod head;

@@ -39,7 +39,7 @@ fn check_place(size: HouseSize, desk: u64, item: u64) -> Result<(), Refusal>
     Ok(())
 }
 
-fn check_askings(askings: &[Asking]) -> Result<(), Refusal>
+pub fn check_askings(askings: &[Asking]) -> Result<(), Refusal>
     ensures { λ r. ⌜ errPart r ≡ askings-fault (now (askings .entry)) ⌝ }
 {
     if askings.len() > MAX_ASKINGS {

@@ -1,5 +1,5 @@
 // Total reading of bytes: one that is not there reads as 0.
-ghost use Rattle.dayfile.specs.Bytes.{low-first};
+ghost use Rattle.bytes.specs.Bytes.{low-first};
 ghost use lib.ListN.{getD};
 ghost use mathlib.Core.Path.{_≡_};
 
