@@ -6,6 +6,7 @@ use script::Refusal;
 use std::env;
 use std::error::AnyError;
 use std::fs;
+use store::empty_store;
 
 fn main(rt: LibcRuntime) -> Result<(), AnyError> {
     let outcome = run(&rt);
@@ -34,11 +35,12 @@ fn run(rt: &LibcRuntime) -> Result<(), AnyError> {
     }
 }
 
-// A line for each command that is refused; the rest of the commands are not performed yet.
+// A line for each command that is refused. Commands at a desk are checked, and not performed yet.
 fn print_day(rt: &LibcRuntime, day: &Day) -> Result<(), AnyError> {
     let size = day.size;
+    let mut rows = empty_store(rt.alloc(), size.room)?;
     for (number, command) in day.commands.iter().enumerate() {
-        if let Err(refusal) = command.check(size) {
+        if let Err(refusal) = command.perform(size, rows.as_mut_slice()) {
             print_refusal(rt, number, refusal)?;
         }
     }
