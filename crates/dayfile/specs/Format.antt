@@ -1,5 +1,5 @@
 -- The bytes of a day's file: the head, and the commands one behind the other. Assumes nothing: these are definitions.
-use mathlib.Core.Bool.{Bool, _&&_, cond}
+use mathlib.Core.Bool.{Bool, _&&_, _||_, cond}
 use mathlib.Core.List.{List}
 use Prim.Native.Nat.{ℕ, _+_, _*_}
 use lib.Dec.{eqb, leb, ltb}
@@ -72,6 +72,10 @@ deed-in bs =
     (cond (eqb (byte bs 0) 2) (build (byte bs 1) (byte bs 2))
     (cond (eqb (byte bs 0) 3) (forget (byte bs 1))
     (import-in bs))))
+
+-- a command that carries lines: one that gives a script, or an entry from elsewhere
+abbrev pub carries-lines : List ℕ → Bool
+carries-lines bs = eqb (byte bs 0) 1 || leb 4 (byte bs 0)
 
 abbrev pub head-bytes : ℕ
 head-bytes = 3

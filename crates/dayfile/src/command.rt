@@ -1,10 +1,12 @@
 // Reads one command from the first of its bytes on.
 ghost use Prim.Native.Nat.{_<_, _≤_};
-ghost use Rattle.dayfile.specs.Format.{deed-in, import-in, size-in, whole-size};
+ghost use Rattle.dayfile.specs.Format.{carries-lines, deed-in, import-in, size-in, whole-size};
 ghost use Rattle.house.specs.Deeds.{deed-of};
 ghost use Rattle.std.specs.Options.{Cases};
+ghost use Rattle.std.specs.Results.{Cases as ByOk};
 ghost use Rattle.std.specs.Vec.{made};
 ghost use lib.ListN.{length};
+ghost use mathlib.Core.Bool.{true};
 ghost use mathlib.Core.Path.{_≡_};
 use super::pieces::ASKING_BYTES;
 use super::pieces::AskingPiece;
@@ -59,9 +61,9 @@ pub fn whole_command(bytes: &[u8]) -> Option<usize>
     }
 }
 
-// The command, of which missing bytes read as 0; a kind above 4 reads as 4.
+// The command, of which missing bytes read as 0; a kind above 4 reads as 4. Only what carries lines can want for memory.
 pub fn read_command(heap: Global, bytes: &[u8]) -> Result<Command, AllocError>
-    ensures { λ r. ⌜ made r (λ command. deed-of command ≡ deed-in (now (bytes .entry))) ⌝ }
+    ensures { λ r. ⌜ ByOk r (λ command. deed-of command ≡ deed-in (now (bytes .entry))) (λ _. carries-lines (now (bytes .entry)) ≡ true) ⌝ }
 {
     let desk = u64::from(byte_at(bytes, 1));
     let item = u64::from(byte_at(bytes, 2));
