@@ -23,7 +23,7 @@ pub struct Day {
     pub stopped: Option<Refusal>,
 }
 
-#[derive(Clone, Copy, Debug)]
+#[derive(Clone, Copy)]
 pub enum DayError {
     // The head is missing or out of bounds.
     HouseRefused,

@@ -6,5 +6,4 @@ mod pieces;
 
 pub use day::Day;
 pub use day::DayError;
-pub use day::DayErrorDebug;
 pub use day::read_day;

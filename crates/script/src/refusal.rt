@@ -3,7 +3,7 @@ ghost use mathlib.Core.Path.{_≡_};
 ghost use Rattle.script.specs.Refusals.{number-of, place-of};
 
 // Each variant holds its place, except where the place is always the limit itself.
-#[derive(Clone, Copy, PartialEq, Debug)]
+#[derive(Clone, Copy)]
 pub enum Refusal {
     // The command's kind is unknown, or its bytes end early; at its first byte.
     Unreadable { at: u64 },

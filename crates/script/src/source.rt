@@ -11,15 +11,13 @@ ghost use mathlib.Core.Path.{_≡_};
 use super::layout::MAX_SKIP;
 use super::layout::REGISTERS;
 use super::line::Line;
-use super::line::LineDebug;
-use super::line::LinePartialEq;
 use super::refusal::Refusal;
 use rows::number_after;
 
 // The highest kind that a line has.
 const LAST_KIND: u64 = 5;
 
-#[derive(Clone, Copy, PartialEq, Debug)]
+#[derive(Clone, Copy)]
 pub enum SourceLine {
     Known(Line),
     // A kind that no line has. Its register is kept, since such a line counts as kind 5 where it is run.

@@ -12,7 +12,7 @@ use std::alloc::Global;
 // Bytes that a number takes.
 const NUMBER_BYTES: usize = 8;
 
-#[derive(Clone, Copy, Debug)]
+#[derive(Clone, Copy)]
 pub enum StoreFileError {
     // The bytes do not come out even in numbers.
     NotWholeNumbers,
