@@ -3,8 +3,13 @@ ghost use Prim.Native.Nat.{_≤_};
 ghost use Rattle.items.specs.Rows.{Reads-first, Reads-item, items-in};
 ghost use lib.ListN.{length};
 ghost use mathlib.Core.Path.{_≡_};
+
+mod writing;
+
 use rows::number_after;
 use rows::tail;
+pub use writing::write_made;
+pub use writing::write_value;
 
 // Numbers that an item takes: 0 and a value, or 1 and a script.
 pub const ITEM_SIZE: usize = 130;

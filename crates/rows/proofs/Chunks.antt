@@ -71,7 +71,7 @@ module _ {X : Type 0} (read : List ℕ → X) (size : ℕ) where
 
 -- pieces that are read from their own numbers alone
 module _ {X : Type 0} (read : List ℕ → X) (size : ℕ) (local : (xs : List ℕ) → read xs ≡ read (take size xs)) where
-  same-read : (xs ys : List ℕ) → take size xs ≡ take size ys → read xs ≡ read ys
+  pub same-read : (xs ys : List ℕ) → take size xs ≡ take size ys → read xs ≡ read ys
   same-read xs ys e = local xs ∙ ap read e ∙ sym (local ys)
 
   -- rows that begin alike have the same pieces there

@@ -1,3 +1,4 @@
 pub mod Chunks
 pub mod Counted
+pub mod Over
 pub mod Written
