@@ -1,6 +1,8 @@
 // The house: its desks, and the commands that are given at them.
 mod check;
 mod command;
+mod desk_commands;
+mod desks;
 mod import;
 mod perform;
 mod size;

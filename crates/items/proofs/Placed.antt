@@ -13,8 +13,8 @@ use Rattle.std.proofs.shelf.Lists.{append-nil, drop-all, drop-drop, length-drop
 use Rattle.theory.specs.Items.{Item}
 use Rattle.items.specs.Rows.{item-at, item-out, item-size, rewritten}
 
--- a place that was told under a test is that place, and the test held
-pub told : (b : Bool) (s t : ℕ) → Some s ≡ cond b (Some t) None → (b ≡ true) × (s ≡ t)
+-- what was told under a test is that, and the test held
+pub told : {X : Type 0} (b : Bool) (s t : X) → Some s ≡ cond b (Some t) None → (b ≡ true) × (s ≡ t)
 told true s t e = (refl, grind arith)
 told false s t e = absurd (grind arith)
 

@@ -8,6 +8,7 @@ mod writing;
 
 use rows::number_after;
 use rows::tail;
+pub use writing::has_item;
 pub use writing::write_made;
 pub use writing::write_value;
 

@@ -40,6 +40,13 @@ pub fn write_made(items: &mut [u64], item: u64, lines: &[SourceLine])
     }
 }
 
+// Whether the row has the item with all its numbers.
+pub fn has_item(items: &[u64], item: u64) -> bool
+    ensures { λ r. ⌜ r ≡ has-item (now (items .entry)) item ⌝ }
+{
+    start_of(items, item).is_some()
+}
+
 // Where the item begins, if the row has it with all its numbers.
 fn start_of(items: &[u64], item: u64) -> Option<usize>
     ensures { λ r. ⌜ r ≡ cond (has-item (now (items .entry)) item) (Some (item-at item)) None ⌝ }

@@ -1,0 +1,65 @@
+// The commands that change a desk: writing a number into an item, and giving it a script.
+ghost use Rattle.house.specs.DeskFaults.{Found, desk-fault, script-at-fault};
+ghost use Rattle.house.specs.Desks.{desk-part, with-desk};
+ghost use Rattle.items.specs.Rows.{rewritten};
+ghost use Rattle.script.specs.Allowed.{counted-as};
+ghost use Rattle.std.specs.Results.{errPart, isOk};
+ghost use Rattle.theory.specs.Items.{made, written};
+ghost use mathlib.Core.Bool.{cond};
+ghost use mathlib.Core.List.{map};
+ghost use mathlib.Core.Path.{_≡_};
+use super::desks::Span;
+use super::desks::desk_span;
+use super::size::HouseSize;
+use items::has_item;
+use items::write_made;
+use items::write_value;
+use script::Refusal;
+use script::SourceLine;
+use script::check_script;
+
+// Where the desk stands, if it is there and has the item: first the desk is refused, then the item.
+pub fn find_item(size: HouseSize, desks: &[u64], desk: u64, item: u64) -> Result<Span, Refusal>
+    ensures fault { λ r. ⌜ errPart r ≡ desk-fault size (now (desks .entry)) desk item ⌝ }
+    ensures value { λ r. ⌜ Found size (now (desks .entry)) desk item r ⌝ }
+{
+    let Some(span) = desk_span(size, desks.len(), desk) else {
+        return Err(Refusal::NoSuchDesk { desk });
+    };
+    let Span { start, end } = span;
+    if !has_item(&desks[start..end], item) {
+        return Err(Refusal::NoSuchItem { item });
+    }
+    Ok(span)
+}
+
+pub fn write_at(
+    size: HouseSize,
+    desks: &mut [u64],
+    desk: u64,
+    item: u64,
+    value: u64,
+) -> Result<(), Refusal>
+    ensures fault { λ r. ⌜ errPart r ≡ desk-fault size (now (desks .entry)) desk item ⌝ }
+    ensures after { λ r. ⌜ now (desks .exit) ≡ cond (isOk r) (with-desk size (now (desks .entry)) desk (rewritten (desk-part size (now (desks .entry)) desk) item (written value))) (now (desks .entry)) ⌝ }
+{
+    let Span { start, end } = find_item(size, desks, desk, item)?;
+    write_value(&mut desks[start..end], item, value);
+    Ok(())
+}
+
+pub fn script_at(
+    size: HouseSize,
+    desks: &mut [u64],
+    desk: u64,
+    item: u64,
+    lines: &[SourceLine],
+) -> Result<(), Refusal>
+    ensures fault { λ r. ⌜ errPart r ≡ script-at-fault size (now (desks .entry)) desk item (now (lines .entry)) ⌝ }
+    ensures after { λ r. ⌜ now (desks .exit) ≡ cond (isOk r) (with-desk size (now (desks .entry)) desk (rewritten (desk-part size (now (desks .entry)) desk) item (made (map counted-as (now (lines .entry)))))) (now (desks .entry)) ⌝ }
+{
+    let Span { start, end } = find_item(size, desks, desk, item)?;
+    check_script(lines)?;
+    write_made(&mut desks[start..end], item, lines);
+    Ok(())
+}
