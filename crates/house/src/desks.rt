@@ -10,6 +10,7 @@ ghost use mathlib.Core.List.{_++_};
 ghost use mathlib.Core.Path.{_≡_};
 use super::size::HouseSize;
 use items::ITEM_SIZE;
+use rows::push_zeros;
 use std::alloc::AllocError;
 use std::alloc::Global;
 
@@ -38,4 +39,29 @@ pub fn desk_span(size: HouseSize, length: usize, desk: u64) -> Option<Span>
         start: end - numbers,
         end,
     })
+}
+
+// The desks at the start: every item is written with 0.
+pub fn new_desks(heap: Global, size: HouseSize) -> Result<Vec<u64>, AllocError>
+    ensures { λ r. ⌜ made r (λ row. vec-items row ≡ new-desks size) ⌝ }
+{
+    let mut row = Vec::new(heap);
+    let mut desk = 0;
+    while desk < size.desks {
+        push_desk(&mut row, size.items)?;
+        desk += 1;
+    }
+    Ok(row)
+}
+
+// Puts one more desk behind the others.
+fn push_desk(row: &mut Vec<u64>, items: u64) -> Result<(), AllocError>
+    ensures { λ r. ⌜ made r (λ _. vec-items (now (row .exit)) ≡ vec-items (now (row .entry)) ++ new-desk items) ⌝ }
+{
+    let Some(numbers) = ITEM_SIZE.checked_mul(items as usize) else {
+        return Err(AllocError);
+    };
+    row.push(items)?;
+    push_zeros(row, numbers)?;
+    Ok(())
 }

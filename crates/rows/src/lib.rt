@@ -1,10 +1,13 @@
 // Total access to a lent row: a number that is not there reads as 0 and takes no write.
 ghost use Prim.Native.Nat.{_+_, _-_, _<_, _≤_};
+ghost use Rattle.std.specs.Of.Vec.{vec-items};
 ghost use Rattle.std.specs.Options.{Cases};
+ghost use Rattle.std.specs.Vec.{made};
 ghost use Rattle.rows.specs.Rows.{written-at};
 ghost use lib.ListN.{drop, getD, length, replicate, set, take};
 ghost use mathlib.Core.List.{_++_};
 ghost use mathlib.Core.Path.{_≡_};
+use std::alloc::AllocError;
 
 // The part of a row from `at` on, of which there may be nothing.
 pub fn tail<T>(row: &[T], at: usize) -> &[T]
@@ -55,4 +58,16 @@ pub fn clear_from(row: &mut [u64], at: usize)
 {
     let start = at.min(row.len());
     row[start..].fill(0);
+}
+
+// Puts so many numbers 0 behind those of the row.
+pub fn push_zeros(row: &mut Vec<u64>, count: usize) -> Result<(), AllocError>
+    ensures { λ r. ⌜ made r (λ _. vec-items (now (row .exit)) ≡ vec-items (now (row .entry)) ++ replicate count 0) ⌝ }
+{
+    let mut pushed = 0;
+    while pushed < count {
+        row.push(0)?;
+        pushed += 1;
+    }
+    Ok(())
 }

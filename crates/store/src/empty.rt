@@ -7,6 +7,7 @@ ghost use lib.ListN.{replicate};
 ghost use mathlib.Core.List.{_∷_};
 ghost use mathlib.Core.Path.{_≡_};
 use entry::ENTRY_SIZE;
+use rows::push_zeros;
 use std::alloc::AllocError;
 use std::alloc::Global;
 
@@ -20,10 +21,6 @@ pub fn empty_store(heap: Global, room: u64) -> Result<Vec<u64>, AllocError>
     let mut rows = Vec::new(heap);
     rows.push(0)?;
     rows.push(room)?;
-    let mut written = 0;
-    while written < entries {
-        rows.push(0)?;
-        written += 1;
-    }
+    push_zeros(&mut rows, entries)?;
     Ok(rows)
 }
