@@ -1,0 +1,6 @@
+mod Marks
+mod Kept
+mod Came
+mod Running
+mod Evaluating
+mod Bounds

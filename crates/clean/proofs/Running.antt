@@ -1,0 +1,60 @@
+-- A script that is run, asking by asking: what holds of the registers and the marks. Assumes nothing.
+use mathlib.Core.List.{List, []}
+use mathlib.Core.Logic.{_⊎_, inl, inr, ⊎-elim}
+use mathlib.Core.Path.{_≡_, sym, subst}
+use Prim.Native.Nat.{ℕ}
+use Rattle.script.specs.Machine.{rest, start}
+use Rattle.script.specs.Rule.{Script, Task, Value, asks, done, task-of}
+use Rattle.script.specs.declared.registers.Registers.{Registers}
+use Rattle.script.proofs.Steps.{rest-start}
+use Rattle.theory.specs.Clean.{Asks, Reached, ends, now}
+use Rattle.theory.specs.Items.{Item}
+use Rattle.clean.specs.Outcomes.{Below, Item-held, Item-valued, Kept, None-opened, Run-ended, Run-held}
+use Rattle.clean.specs.Sound.{Sound}
+use Rattle.clean.specs.declared.mark.Mark.{Mark}
+use Rattle.clean.proofs.Came.{Came, came-answer, came-heard, came-held, came-kept, came-start}
+use Rattle.clean.proofs.Kept.{kept-join, kept-more, kept-same, settled-kept}
+
+-- the marks were ms as script s began, and are ms₁ now that its registers stand at g
+pub record Running (d : List Item) (s : Script) (ms ms₁ : List Mark) (g : Registers) : Type 0 where
+  pub sound : Sound d ms₁
+  pub kept : Kept (Below d (task-of s)) ms ms₁
+  pub opened : None-opened ms ms₁
+  pub came : Came d ms₁ (task-of s) (rest s g)
+
+pub running-start : {d : List Item} {ms : List Mark} (s : Script) (g : Registers) → g ≡ start → Sound d ms → Running d s ms ms g
+running-start {d} {ms} s g is so = record {
+  sound = so;
+  kept = kept-same;
+  opened = λ k e. e;
+  came = subst (λ x. Came d ms (task-of s) (rest s x)) (sym is) (subst (Came d ms (task-of s)) (sym (rest-start s)) came-start);
+}
+
+module _ {d : List Item} {s : Script} {ms ms₁ : List Mark} {g : Registers} (so-far : Running d s ms ms₁ g) where
+  pub running-ends : (v : Value) → rest s g ≡ done v → Run-ended d ms ms₁ (task-of s) v
+  running-ends v is =
+      let came = subst (Came d ms₁ (task-of s)) is (so-far .came) in
+      let run = came .gives v [] ends in
+      record { askings = run .0; runs = run .1; heard = came-heard came; opened = so-far .opened }
+
+  -- the script asks for item k, which is then evaluated
+  module _ {k : ℕ} {c : Value → Task} (is : rest s g ≡ asks k c) {ms₂ : List Mark} (sound : Sound d ms₂) (kept : Kept (Reached d k) ms₁ ms₂) where
+    asked : Came d ms₂ (task-of s) (asks k c)
+    asked = came-kept (settled-kept kept) (subst (Came d ms₁ (task-of s)) is (so-far .came))
+
+    pub running-kept : Kept (Below d (task-of s)) ms ms₂
+    running-kept = kept-join (so-far .kept) (kept-more (λ j r. record { first = k; asked = asked .on k now; looked = r }) kept)
+
+    pub running-on : (v : Value) (g₁ : Registers) → Item-valued d ms₁ ms₂ k v → rest s g₁ ≡ c v → Running d s ms ms₂ g₁
+    running-on v g₁ valued on = record {
+      sound = sound;
+      kept = running-kept;
+      opened = λ j e. so-far .opened j (valued .opened j e);
+      came = subst (Came d ms₂ (task-of s)) (sym on) (came-answer asked (valued .makes) (valued .settled));
+    }
+
+    pub running-held : Item-held d ms₁ ms₂ k → Run-held d ms ms₂ (task-of s)
+    running-held held = record {
+      held = came-held asked (held .is-open);
+      opened = λ j e. ⊎-elim (λ before. inl (so-far .opened j before)) inr (held .opened j e);
+    }
