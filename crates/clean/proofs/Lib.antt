@@ -4,3 +4,6 @@ mod Came
 mod Running
 mod Evaluating
 mod Bounds
+mod Pushing
+mod InRow
+mod Whole

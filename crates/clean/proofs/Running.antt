@@ -7,10 +7,12 @@ use Rattle.script.specs.Machine.{rest, start}
 use Rattle.script.specs.Rule.{Script, Task, Value, asks, done, task-of}
 use Rattle.script.specs.declared.registers.Registers.{Registers}
 use Rattle.script.proofs.Steps.{rest-start}
-use Rattle.theory.specs.Clean.{Asks, Reached, ends, now}
+use Rattle.theory.specs.Clean.{ends, now}
 use Rattle.theory.specs.Items.{Item}
-use Rattle.clean.specs.Outcomes.{Below, Item-held, Item-valued, Kept, None-opened, Run-ended, Run-held}
+use Rattle.clean.specs.Outcomes.{Below, Evaluated, Kept, None-opened, Ran}
 use Rattle.clean.specs.Sound.{Sound}
+use Rattle.clean.specs.declared.answer.CleanAnswer.{CleanAnswer}
+use Rattle.clean.specs.declared.answer.CleanAnswer.the-variants.{Value as Valued, Ring}
 use Rattle.clean.specs.declared.mark.Mark.{Mark}
 use Rattle.clean.proofs.Came.{Came, came-answer, came-heard, came-held, came-kept, came-start}
 use Rattle.clean.proofs.Kept.{kept-join, kept-more, kept-same, settled-kept}
@@ -31,30 +33,39 @@ running-start {d} {ms} s g is so = record {
 }
 
 module _ {d : List Item} {s : Script} {ms ms₁ : List Mark} {g : Registers} (so-far : Running d s ms ms₁ g) where
-  pub running-ends : (v : Value) → rest s g ≡ done v → Run-ended d ms ms₁ (task-of s) v
+  pub running-ends : (v : Value) → rest s g ≡ done v → Ran d ms ms₁ (task-of s) (Valued v)
   running-ends v is =
       let came = subst (Came d ms₁ (task-of s)) is (so-far .came) in
       let run = came .gives v [] ends in
-      record { askings = run .0; runs = run .1; heard = came-heard came; opened = so-far .opened }
+      record {
+        sound = so-far .sound;
+        kept = so-far .kept;
+        outcome = record { askings = run .0; runs = run .1; heard = came-heard came; opened = so-far .opened };
+      }
 
   -- the script asks for item k, which is then evaluated
-  module _ {k : ℕ} {c : Value → Task} (is : rest s g ≡ asks k c) {ms₂ : List Mark} (sound : Sound d ms₂) (kept : Kept (Reached d k) ms₁ ms₂) where
+  module _ {k : ℕ} {c : Value → Task} (is : rest s g ≡ asks k c) {ms₂ : List Mark} {r : CleanAnswer} (now-is : Evaluated d ms₁ ms₂ k r) where
     asked : Came d ms₂ (task-of s) (asks k c)
-    asked = came-kept (settled-kept kept) (subst (Came d ms₁ (task-of s)) is (so-far .came))
+    asked = came-kept (settled-kept (now-is .kept)) (subst (Came d ms₁ (task-of s)) is (so-far .came))
 
-    pub running-kept : Kept (Below d (task-of s)) ms ms₂
-    running-kept = kept-join (so-far .kept) (kept-more (λ j r. record { first = k; asked = asked .on k now; looked = r }) kept)
+    kept-on : Kept (Below d (task-of s)) ms ms₂
+    kept-on = kept-join (so-far .kept) (kept-more (λ j l. record { first = k; asked = asked .on k now; looked = l }) (now-is .kept))
 
-    pub running-on : (v : Value) (g₁ : Registers) → Item-valued d ms₁ ms₂ k v → rest s g₁ ≡ c v → Running d s ms ms₂ g₁
+  module _ {k : ℕ} {c : Value → Task} (is : rest s g ≡ asks k c) {ms₂ : List Mark} where
+    pub running-on : (v : Value) (g₁ : Registers) → Evaluated d ms₁ ms₂ k (Valued v) → rest s g₁ ≡ c v → Running d s ms ms₂ g₁
     running-on v g₁ valued on = record {
-      sound = sound;
-      kept = running-kept;
-      opened = λ j e. so-far .opened j (valued .opened j e);
-      came = subst (Came d ms₂ (task-of s)) (sym on) (came-answer asked (valued .makes) (valued .settled));
+      sound = valued .sound;
+      kept = kept-on is valued;
+      opened = λ j e. so-far .opened j (valued .outcome .opened j e);
+      came = subst (Came d ms₂ (task-of s)) (sym on) (came-answer (asked is valued) (valued .outcome .makes) (valued .outcome .settled));
     }
 
-    pub running-held : Item-held d ms₁ ms₂ k → Run-held d ms ms₂ (task-of s)
+    pub running-held : Evaluated d ms₁ ms₂ k Ring → Ran d ms ms₂ (task-of s) Ring
     running-held held = record {
-      held = came-held asked (held .is-open);
-      opened = λ j e. ⊎-elim (λ before. inl (so-far .opened j before)) inr (held .opened j e);
+      sound = held .sound;
+      kept = kept-on is held;
+      outcome = record {
+        held = came-held (asked is held) (held .outcome .is-open);
+        opened = λ j e. ⊎-elim (λ before. inl (so-far .opened j before)) inr (held .outcome .opened j e);
+      };
     }

@@ -1,3 +1,4 @@
 pub mod Marks
 pub mod Sound
 pub mod Outcomes
+pub mod Builds

@@ -8,6 +8,7 @@ use Rattle.entry.specs.declared.asking.Asking.{Asking}
 use Rattle.theory.specs.Clean.{Asks, Makes, Reached, Runs}
 use Rattle.theory.specs.Items.{Item, item, made}
 use Rattle.clean.specs.Marks.{Is-known, Is-open, Seen, Settled, unseen}
+use Rattle.clean.specs.Sound.{Sound}
 use Rattle.clean.specs.declared.answer.CleanAnswer.{CleanAnswer}
 use Rattle.clean.specs.declared.answer.CleanAnswer.the-variants.{Value as Valued, Ring}
 use Rattle.clean.specs.declared.mark.Mark.{Mark}
@@ -70,3 +71,15 @@ pub record Run-held (d : List Item) (ms ms₁ : List Mark) (t : Task) : Type 0 w
 abbrev pub Run-out : List Item → List Mark → List Mark → Task → CleanAnswer → Type 0
 Run-out d ms ms₁ t (Valued v) = Run-ended d ms ms₁ t v
 Run-out d ms ms₁ t Ring = Run-held d ms ms₁ t
+
+-- item k was evaluated, and r came out
+pub record Evaluated (d : List Item) (ms ms₁ : List Mark) (k : ℕ) (r : CleanAnswer) : Type 0 where
+  pub sound : Sound d ms₁
+  pub kept : Kept (Reached d k) ms ms₁
+  pub outcome : Item-out d ms ms₁ k r
+
+-- task t was run, and r came out
+pub record Ran (d : List Item) (ms ms₁ : List Mark) (t : Task) (r : CleanAnswer) : Type 0 where
+  pub sound : Sound d ms₁
+  pub kept : Kept (Below d t) ms ms₁
+  pub outcome : Run-out d ms ms₁ t r

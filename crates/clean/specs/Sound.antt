@@ -6,7 +6,7 @@ use lib.ListN.{length}
 use Rattle.script.specs.Rule.{Script, Value, task-of}
 use Rattle.theory.specs.Clean.{Asks, Makes}
 use Rattle.theory.specs.Items.{Item, item, made}
-use Rattle.clean.specs.Marks.{Is-known, Settled}
+use Rattle.clean.specs.Marks.{Is-known, Settled, unseen}
 use Rattle.clean.specs.declared.mark.Mark.{Mark}
 
 -- item k comes to v by its script, and all that the script asks for is settled
@@ -20,3 +20,8 @@ pub record Finished (d : List Item) (ms : List Mark) (k : ℕ) (v : Value) : Typ
 pub record Sound (d : List Item) (ms : List Mark) : Type 0 where
   pub room : length d ≤ length ms
   pub finished : (k : ℕ) (v : Value) → Is-known ms k v → Finished d ms k v
+
+-- no more items than the depth are unseen, so that it lasts
+pub record Ready (d : List Item) (ms : List Mark) (depth : ℕ) : Type 0 where
+  pub sound : Sound d ms
+  pub deep : unseen (length d) ms ≤ depth

@@ -1,13 +1,9 @@
 // From item to item: an item's script is run, and each asking is answered by evaluating the item asked for.
-ghost use Prim.Native.Nat.{_≤_};
-ghost use Rattle.clean.specs.Marks.{unseen};
-ghost use Rattle.clean.specs.Outcomes.{Below, Item-out, Kept, Run-out};
-ghost use Rattle.clean.specs.Sound.{Sound};
+ghost use Rattle.clean.specs.Outcomes.{Evaluated, Ran};
+ghost use Rattle.clean.specs.Sound.{Ready};
 ghost use Rattle.items.specs.Rows.{items-in};
 ghost use Rattle.script.specs.Rows.{script-in};
 ghost use Rattle.script.specs.Rule.{task-of};
-ghost use Rattle.theory.specs.Clean.{Reached};
-ghost use lib.ListN.{length};
 use super::answer::CleanAnswer;
 use super::mark::Mark;
 use items::Item;
@@ -18,11 +14,8 @@ use script::Registers;
 
 // An item that is met while it is open is needed for itself. No more items than `depth` are unseen, so the depth lasts.
 pub fn evaluate(items: &[u64], marks: &mut [Mark], depth: usize, item: u64) -> CleanAnswer
-    requires sound { ⌜ Sound (items-in (now items)) (now marks) ⌝ }
-    requires deep { ⌜ unseen (length (items-in (now items))) (now marks) ≤ depth ⌝ }
-    ensures sound { λ _. ⌜ Sound (items-in (now (items .entry))) (now (marks .exit)) ⌝ }
-    ensures kept { λ _. ⌜ Kept (Reached (items-in (now (items .entry))) item) (now (marks .entry)) (now (marks .exit)) ⌝ }
-    ensures outcome { λ r. ⌜ Item-out (items-in (now (items .entry))) (now (marks .entry)) (now (marks .exit)) item r ⌝ }
+    requires { ⌜ Ready (items-in (now items)) (now marks) depth ⌝ }
+    ensures { λ r. ⌜ Evaluated (items-in (now (items .entry))) (now (marks .entry)) (now (marks .exit)) item r ⌝ }
 {
     let script = match item_of(items, item) {
         Item::Written(value) => return CleanAnswer::Value(value),
@@ -42,11 +35,8 @@ pub fn evaluate(items: &[u64], marks: &mut [Mark], depth: usize, item: u64) -> C
 
 // A ring ends the run, and with it everything above.
 fn run_script(items: &[u64], marks: &mut [Mark], depth: usize, script: &[u64]) -> CleanAnswer
-    requires sound { ⌜ Sound (items-in (now items)) (now marks) ⌝ }
-    requires deep { ⌜ unseen (length (items-in (now items))) (now marks) ≤ depth ⌝ }
-    ensures sound { λ _. ⌜ Sound (items-in (now (items .entry))) (now (marks .exit)) ⌝ }
-    ensures kept { λ _. ⌜ Kept (Below (items-in (now (items .entry))) (task-of (script-in (now (script .entry))))) (now (marks .entry)) (now (marks .exit)) ⌝ }
-    ensures outcome { λ r. ⌜ Run-out (items-in (now (items .entry))) (now (marks .entry)) (now (marks .exit)) (task-of (script-in (now (script .entry)))) r ⌝ }
+    requires { ⌜ Ready (items-in (now items)) (now marks) depth ⌝ }
+    ensures { λ r. ⌜ Ran (items-in (now (items .entry))) (now (marks .entry)) (now (marks .exit)) (task-of (script-in (now (script .entry)))) r ⌝ }
 {
     let mut registers = Registers::new();
     loop {
