@@ -5,10 +5,10 @@ use mathlib.Core.Path.{_≡_, refl, sym, subst}
 use Prim.Native.Nat.{ℕ}
 use Rattle.script.specs.Rule.{Task, Value, asks, done}
 use Rattle.entry.specs.declared.asking.Asking.{Asking}
-use Rattle.theory.specs.Clean.{Asks, Makes, Runs, ends, goes, later, now}
+use Rattle.theory.specs.Clean.{Asks, Makes, Runs, goes, later, now}
 use Rattle.theory.specs.Items.{Item}
 use Rattle.theory.proofs.Values.{done-asks-none, makes-unique}
-use Rattle.clean.specs.Marks.{Is-open, Seen, Settled}
+use Rattle.clean.specs.Marks.{Is-open, Settled}
 use Rattle.clean.specs.Outcomes.{Held}
 use Rattle.clean.specs.declared.mark.Mark.{Mark}
 

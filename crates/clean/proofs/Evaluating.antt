@@ -30,7 +30,7 @@ module _ (d : List Item) (ms : List Mark) (k : ℕ) {s : Script} (sound : Sound 
   marked-there = omega (arith, made-there d k is-made, sound .room)
 
   module _ (is-unseen : mark-of ms k ≡ Unseen) where
-    -- marks that differ from the first ones at item k alone
+    -- what is known or open is another item
     known-else : (j : ℕ) (v : Value) → Is-known ms j v → (j ≡ k → ⊥)
     known-else j v e same = unseen-known (subst (λ x. mark-of ms x ≡ Unseen) (sym same) is-unseen) e
 

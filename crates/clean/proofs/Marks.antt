@@ -1,13 +1,12 @@
 -- Laws of single marks, and of how many items are unseen. Assumes nothing.
 use mathlib.Core.List.{List, [], _∷_}
-use mathlib.Core.Logic.{⊎-elim}
-use mathlib.Core.Path.{_≡_, refl, sym, _∙_}
+use mathlib.Core.Path.{_≡_}
 use Prim.Native.Nat.{ℕ, zero, suc, _≤_, _<_}
 use native.Mathlib.Omega.{arith}
 use lib.ListN.{length, set, replicate}
 use Rattle.std.proofs.shelf.Lists.{getD-set-other, getD-set-same}
 use Rattle.script.specs.Rule.{Value}
-use Rattle.clean.specs.Marks.{Is-known, Is-open, mark-of, one-if-unseen, unseen}
+use Rattle.clean.specs.Marks.{mark-of, one-if-unseen, unseen}
 use Rattle.clean.specs.declared.mark.Mark.{Mark}
 use Rattle.clean.specs.declared.mark.Mark.the-variants.{Unseen, Open, Known}
 

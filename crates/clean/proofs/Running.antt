@@ -1,6 +1,6 @@
 -- A script that is run, asking by asking: what holds of the registers and the marks. Assumes nothing.
 use mathlib.Core.List.{List, []}
-use mathlib.Core.Logic.{_⊎_, inl, inr, ⊎-elim}
+use mathlib.Core.Logic.{inl, inr, ⊎-elim}
 use mathlib.Core.Path.{_≡_, sym, subst}
 use Prim.Native.Nat.{ℕ}
 use Rattle.script.specs.Machine.{rest, start}

@@ -12,6 +12,8 @@ mod listing;
 mod mark;
 
 pub use answer::CleanAnswer;
+pub use answer::CleanAnswerDebug;
+pub use answer::CleanAnswerPartialEq;
 use evaluate::evaluate;
 use items::MAX_ITEMS;
 use items::item_count;

@@ -1,4 +1,3 @@
-use mathlib.Core.Logic.{inl}
 use mathlib.Core.Path.{sym, ap, subst}
 use native.Mathlib.Omega.{arith}
 use borrow.Author.Needs.{needs}
@@ -31,9 +30,6 @@ pub evaluate-returns-in-Known : need.evaluate-returns-in-Known
 evaluate-returns-in-Known t c =
     let known = c .in-Known .is in
     record { sound = c .pre .sound; kept = kept-same; outcome = record { makes = c .pre .sound .finished _ _ known .makes; settled = by-mark known; opened = λ k e. e } }
-
-pub evaluate-returns-in-Open : need.evaluate-returns-in-Open
-evaluate-returns-in-Open t c = record { sound = c .pre .sound; kept = kept-same; outcome = record { is-open = c .in-Open .is; opened = λ k e. inl e } }
 
 pub evaluate-offset-marks-item-in-Unseen : need.evaluate-offset-marks-item-in-Unseen
 evaluate-offset-marks-item-in-Unseen t c = omega (arith, made-few (c .args .items .now) (c .args .item) (c .in-Made .ensures tt))
