@@ -53,9 +53,6 @@ fn ladder_that_runs_out_of_lines(rt: LibcRuntime) -> Result<(), Fail> {
     expect(row.as_slice(), 0, CleanAnswer::Value(0), list.as_slice())
 }
 
-// Adds up the same item so often that its value, 1, is there 2^4 times.
-const DOUBLED: [[u64; 4]; 4] = [[3, 0, 0, 0]; 4];
-
 // Each item asks for the next one 31 times and gives what it is told; the last one gives 16.
 #[test]
 fn ladder_that_gives(rt: LibcRuntime) -> Result<(), Fail> {
@@ -65,8 +62,7 @@ fn ladder_that_gives(rt: LibcRuntime) -> Result<(), Fail> {
         lines[31] = [5, 0, 0, 0];
         add_made(&mut row, &lines)?;
     }
-    let [a, b, c, d] = DOUBLED;
-    add_made(&mut row, &[[2, 0, 1, 0], a, b, c, d, [5, 0, 0, 0]])?;
+    add_made(&mut row, &[[2, 0, 16, 0], [5, 0, 0, 0]])?;
     let list = first_numbers(rt.alloc(), 256)?;
     expect(row.as_slice(), 0, CleanAnswer::Value(16), list.as_slice())
 }
