@@ -1,0 +1,9 @@
+mod Marks
+mod Kept
+mod Came
+mod Running
+mod Evaluating
+mod Bounds
+mod Pushing
+mod InRow
+mod Whole

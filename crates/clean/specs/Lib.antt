@@ -1,0 +1,4 @@
+pub mod Marks
+pub mod Sound
+pub mod Outcomes
+pub mod Builds
