@@ -1,0 +1,10 @@
+mod Pushes
+mod States
+mod Walks
+mod Grows
+mod Marks
+mod Evaluates
+mod Makes
+mod Tests
+mod Recalls
+mod Runs

@@ -1,0 +1,3 @@
+pub mod Scratch
+pub mod Sound
+pub mod Made

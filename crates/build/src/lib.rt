@@ -1,0 +1,5 @@
+// The build that remembers: an item is made by a kept entry where one still holds, and run where none does.
+mod lent;
+mod making;
+mod scratch;
+mod trace;
