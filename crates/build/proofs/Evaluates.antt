@@ -22,9 +22,12 @@ use Rattle.build.proofs.Grows.{ended-none, went-none}
 use Rattle.build.proofs.States.{unseen-some}
 use Rattle.build.proofs.Walks.{walked-runs}
 
+pub few-items : (xs : List ℕ) → length (items-in xs) ≤ max-items
+few-items xs = rw (count-in first-item item-size max-items) (omega arith)
+
 -- an item that is made is one of the first 256
 pub made-below : (xs : List ℕ) (j : ℕ) {s : Script} → item (items-in xs) j ≡ made s → j < max-items
-made-below xs j is = omega (arith, made-there (items-in xs) j is, count-in first-item item-size max-items xs)
+made-below xs j is = omega (arith, made-there (items-in xs) j is, few-items xs)
 
 pub known-makes : {d : List Item} {σ : Scratch} {j : ℕ} {qs : List Asking} {v : Value} → Known d σ j qs v → Makes d j v
 known-makes k = by-script (k .is-made) (walked-runs (k .walked))

@@ -8,3 +8,11 @@ mod Makes
 mod Tests
 mod Recalls
 mod Runs
+mod Listing
+mod Keeping
+mod Locals
+mod Added
+mod Stores
+mod Ends
+mod Fits
+mod Finish

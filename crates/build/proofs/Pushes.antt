@@ -5,7 +5,7 @@ use Prim.Native.Nat.{ℕ, _+_, _*_, _≤_, _<_, min}
 use native.Mathlib.Nat.{add-zero}
 use native.Mathlib.Omega.{arith}
 use lib.ListN.{length, getD, take, drop}
-use Rattle.std.proofs.shelf.Lists.{drop-drop, drop-take, getD-drop, getD-take, length-take-le, take-at, take-take}
+use Rattle.std.proofs.shelf.Lists.{drop-drop, drop-take, getD-drop, length-take-le, take-at, take-take}
 use Rattle.rows.specs.Rows.{chunks, written-at}
 use Rattle.rows.proofs.Chunks.{chunks-push, chunks-same}
 use Rattle.rows.proofs.Counted.{count-in}
@@ -14,9 +14,7 @@ use Rattle.script.specs.Layout.{max-askings}
 use Rattle.entry.specs.Layout.{asking-size, askings-size}
 use Rattle.entry.specs.Rows.{asking-out, askings-in, first-asking}
 use Rattle.entry.specs.declared.asking.Asking.{Asking}
-
-first-local : (xs : List ℕ) → first-asking xs ≡ first-asking (take asking-size xs)
-first-local xs = (λ i. record { item = sym (getD-take asking-size xs 0 0 (omega arith)) i; answer = sym (getD-take asking-size xs 1 0 (omega arith)) i })
+use Rattle.build.proofs.Locals.{asking-local}
 
 module _ (row : List ℕ) (n : ℕ) (q : Asking) (long : askings-size ≤ length row) (is : n ≡ length (askings-in row)) (few : n < max-askings) where
   at : ℕ
@@ -36,7 +34,7 @@ module _ (row : List ℕ) (n : ℕ) (q : Asking) (long : askings-size ≤ length
   before : chunks first-asking asking-size n (drop 1 row) ≡ chunks first-asking asking-size n (drop 1 with-q)
   unfolding at with-q
   before =
-      chunks-same first-asking asking-size first-local n (drop 1 row) (drop 1 with-q)
+      chunks-same first-asking asking-size asking-local n (drop 1 row) (drop 1 with-q)
       (sym (drop-take 1 (asking-size * n) row) ∙ ap (drop 1) (sym front) ∙ drop-take 1 (asking-size * n) with-q)
 
   here : q ≡ first-asking (drop (asking-size * n) (drop 1 with-q))
