@@ -1,0 +1,8 @@
+use mathlib.Core.Path.{refl, sym, _∙_, ap}
+use Rattle.rows.specs.Rows.{chunks}
+use Rattle.build.specs.Leaves.{script-of}
+use Rattle.build.proofs.ending.script_row.Needs as need
+
+pub returns-in-Written : need.returns-in-Written
+unfolding chunks
+returns-in-Written c = sym (ap script-of (c .in-Written .ensures tt))
