@@ -2,6 +2,11 @@
 use dayfile::Day;
 use dayfile::DayError;
 use dayfile::read_day;
+use house::Command;
+use house::HouseSize;
+use house::Told;
+use house::new_desks;
+use rows::push_zeros;
 use script::Refusal;
 use std::env;
 use std::error::AnyError;
@@ -26,7 +31,7 @@ fn run(rt: &LibcRuntime) -> Result<(), AnyError> {
         return Err(format!(rt.alloc(), "cannot read {path}")?.into());
     };
     match read_day(rt.alloc(), bytes.as_slice()) {
-        Ok(day) => print_day(rt, &day),
+        Ok(day) => perform_day(rt, &day),
         Err(DayError::HouseRefused) => {
             println!(rt, "house refused")?;
             Ok(())
@@ -35,18 +40,74 @@ fn run(rt: &LibcRuntime) -> Result<(), AnyError> {
     }
 }
 
-// A line for each command that is refused. Commands at a desk are checked, and not performed yet.
-fn print_day(rt: &LibcRuntime, day: &Day) -> Result<(), AnyError> {
+// Performs the commands one by one; a build and a refusal print a line each.
+fn perform_day(rt: &LibcRuntime, day: &Day) -> Result<(), AnyError> {
     let size = day.size;
+    let mut desks = new_desks(rt.alloc(), size)?;
     let mut rows = empty_store(rt.alloc(), size.room)?;
-    for (number, command) in day.commands.iter().enumerate() {
-        if let Err(refusal) = command.perform(size, rows.as_mut_slice()) {
-            print_refusal(rt, number, refusal)?;
-        }
+    let mut ran = empty_list(rt, size)?;
+    for (deed, command) in day.commands.iter().enumerate() {
+        let told = command.perform(
+            size,
+            desks.as_mut_slice(),
+            rows.as_mut_slice(),
+            ran.as_mut_slice(),
+        );
+        print_told(rt, deed, command, told, ran.as_slice())?;
     }
     if let Some(refusal) = day.stopped {
         print_refusal(rt, day.commands.len(), refusal)?;
     }
+    Ok(())
+}
+
+// A row for the list of what ran: its length, and room for every item of a desk.
+fn empty_list(rt: &LibcRuntime, size: HouseSize) -> Result<Vec<u64>, AnyError> {
+    let mut ran = Vec::new(rt.alloc());
+    push_zeros(&mut ran, (size.items as usize).saturating_add(1))?;
+    Ok(ran)
+}
+
+fn print_told(
+    rt: &LibcRuntime,
+    deed: usize,
+    command: &Command,
+    told: Told,
+    ran: &[u64],
+) -> Result<(), AnyError> {
+    match told {
+        Told::Done => Ok(()),
+        Told::Refused(refusal) => print_refusal(rt, deed, refusal),
+        Told::Value(value) => {
+            print_built(rt, command)?;
+            print!(rt, " value {value}")?;
+            print_list(rt, ran)
+        }
+        Told::Ring => {
+            print_built(rt, command)?;
+            print!(rt, " ring")?;
+            print_list(rt, ran)
+        }
+    }
+}
+
+fn print_built(rt: &LibcRuntime, command: &Command) -> Result<(), AnyError> {
+    if let Command::Build { desk, item } = command {
+        print!(rt, "build {desk} {item}")?;
+    }
+    Ok(())
+}
+
+// The list's length stands in front of it.
+fn print_list(rt: &LibcRuntime, ran: &[u64]) -> Result<(), AnyError> {
+    let [count, items @ ..] = ran else {
+        return Ok(());
+    };
+    print!(rt, " ran")?;
+    for item in items.iter().take(*count as usize) {
+        print!(rt, " {item}")?;
+    }
+    println!(rt)?;
     Ok(())
 }
 

@@ -15,7 +15,7 @@ use Rattle.script.specs.Rule.{Value}
 use Rattle.script.specs.declared.source.SourceLine.{SourceLine}
 use Rattle.entry.specs.Replay.{difference}
 use Rattle.entry.specs.Rows.{entry-of}
-use Rattle.store.specs.Faults.{add-fault, remove-fault}
+use Rattle.store.specs.Faults.{add-fault}
 use Rattle.house.specs.Deeds.{Deed, write, give, build, forget, bring}
 use Rattle.entry.specs.declared.asking.Asking.{Asking}
 use Rattle.house.specs.declared.size.HouseSize.{HouseSize}
@@ -38,11 +38,3 @@ early-fault z (bring ls qs v) = or-else (script-fault ls) (askings-fault qs)
 abbrev pub bring-fault : List ℕ → List SourceLine → List Asking → Value → Option Refusal
 bring-fault rows ls qs v =
     or-else (script-fault ls) (or-else (askings-fault qs) (or-else (mapped NotHonest (difference (entry-of ls qs v))) (add-fault rows)))
-
--- the first refusal that applies to a command, over this row of a store
-abbrev pub deed-fault : HouseSize → List ℕ → Deed → Option Refusal
-deed-fault z rows (write x k v) = place-fault z x k
-deed-fault z rows (give x k ls) = or-else (place-fault z x k) (script-fault ls)
-deed-fault z rows (build x k) = place-fault z x k
-deed-fault z rows (forget i) = remove-fault rows i
-deed-fault z rows (bring ls qs v) = bring-fault rows ls qs v

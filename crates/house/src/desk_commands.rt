@@ -1,6 +1,7 @@
-// The commands that change a desk: writing a number into an item, and giving it a script.
+// The commands at a desk: writing a number into an item, giving it a script, building it.
 ghost use Rattle.house.specs.DeskFaults.{Found, desk-fault, script-at-fault};
 ghost use Rattle.house.specs.Desks.{desk-part, with-desk};
+ghost use Rattle.house.specs.Performed.{Built-at};
 ghost use Rattle.items.specs.Rows.{rewritten};
 ghost use Rattle.script.specs.Allowed.{counted-as};
 ghost use Rattle.std.specs.Results.{errPart, isOk};
@@ -11,6 +12,8 @@ ghost use mathlib.Core.Path.{_≡_};
 use super::desks::Span;
 use super::desks::desk_span;
 use super::size::HouseSize;
+use build::Answer;
+use build::build_item;
 use items::has_item;
 use items::write_made;
 use items::write_value;
@@ -62,4 +65,21 @@ pub fn script_at(
     check_script(lines)?;
     write_made(&mut desks[start..end], item, lines);
     Ok(())
+}
+
+// Builds an item of the desk over the store; the list of what ran goes into `ran`.
+pub fn build_at(
+    size: HouseSize,
+    desks: &[u64],
+    rows: &mut [u64],
+    ran: &mut [u64],
+    desk: u64,
+    item: u64,
+) -> Answer
+    ensures { λ r. ⌜ Built-at size desk item (now (desks .entry)) (now (rows .entry)) (now (ran .entry)) r (now (rows .exit)) (now (ran .exit)) ⌝ }
+{
+    let Some(Span { start, end }) = desk_span(size, desks.len(), desk) else {
+        return Answer::Refused(Refusal::NoSuchDesk { desk });
+    };
+    build_item(&desks[start..end], rows, ran, item)
 }

@@ -8,5 +8,7 @@ mod perform;
 mod size;
 
 pub use command::Command;
+pub use desks::new_desks;
+pub use perform::Told;
 pub use size::HouseSize;
 pub use size::Place;
