@@ -2,6 +2,7 @@ pub mod Marks
 pub mod Kept
 pub mod Came
 pub mod Running
+pub mod Already
 pub mod Opening
 pub mod Closing
 pub mod Bounds
