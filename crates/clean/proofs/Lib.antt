@@ -1,9 +1,12 @@
-mod Marks
-mod Kept
-mod Came
-mod Running
-mod Evaluating
-mod Bounds
-mod Pushing
-mod InRow
-mod Whole
+pub mod Marks
+pub mod Kept
+pub mod Came
+pub mod Running
+pub mod Already
+pub mod Opening
+pub mod Closing
+pub mod Bounds
+pub mod Pushing
+pub mod InRow
+pub mod Complete
+pub mod Whole

@@ -1,35 +1,24 @@
--- The marks after a whole build: they tell the answer, and the known items are those that a build lists. Assumes nothing.
-use mathlib.Core.Bool.{true}
+-- A whole build: an item is evaluated with fresh marks. Assumes nothing.
 use mathlib.Core.List.{List, []}
 use mathlib.Core.Logic.{inl, inr, ⊎-elim}
-use mathlib.Core.Path.{_≡_, refl, sym, ap, subst}
+use mathlib.Core.Path.{_≡_, sym, ap}
 use Prim.Native.Nat.{ℕ, _≤_}
-use native.Mathlib.Omega.{arith}
 use lib.ListN.{length, replicate, length-replicate}
 use Rattle.std.proofs.shelf.Lists.{getD-past, getD-replicate}
-use Rattle.std.proofs.shelf.Tests.{cases-lt, false≢true}
-use Rattle.script.specs.Rule.{Script, Value, task-of}
-use Rattle.theory.specs.Build.{Built, Due, In}
-use Rattle.theory.specs.Clean.{Asks, Makes, Reached, clean, ring}
-use Rattle.theory.specs.Items.{Item, item, made}
-use Rattle.theory.specs.Reference.{built-of}
-use Rattle.theory.specs.Rings.{Stuck}
-use Rattle.theory.proofs.Bound.{makes-clean, stuck-ring}
-use Rattle.theory.proofs.Needs.{reached-all}
-use Rattle.theory.proofs.Passing.{in-passing, passing-in, passing-rising}
-use Rattle.theory.proofs.Reference.{reference-fits}
-use Rattle.theory.proofs.Rings.{made-there}
-use Rattle.theory.proofs.Rising.{rising-unique}
-use Rattle.theory.proofs.Stuck.{stuck-none}
-use Rattle.theory.proofs.Values.{made-one, written-made}
-use Rattle.clean.specs.Builds.{is-known, known-items, says}
-use Rattle.clean.specs.Marks.{Is-known, Is-open, Seen, by-hand, by-mark, mark-of}
-use Rattle.clean.specs.Outcomes.{Item-out, Kept, Waits}
+use Rattle.std.proofs.shelf.Tests.{cases-lt}
+use Rattle.theory.specs.Build.{Built}
+use Rattle.theory.specs.Clean.{clean}
+use Rattle.theory.specs.Items.{Item}
+use Rattle.theory.proofs.Bound.{makes-clean}
+use Rattle.clean.specs.Builds.{known-items, says}
+use Rattle.clean.specs.Marks.{Is-open, Seen, mark-of}
+use Rattle.clean.specs.Outcomes.{Evaluated, Item-out, Waits}
 use Rattle.clean.specs.Sound.{Sound}
 use Rattle.clean.specs.declared.answer.CleanAnswer.{CleanAnswer}
 use Rattle.clean.specs.declared.answer.CleanAnswer.the-variants.{Value as Valued, Ring}
 use Rattle.clean.specs.declared.mark.Mark.{Mark}
-use Rattle.clean.specs.declared.mark.Mark.the-variants.{Unseen, Open, Known}
+use Rattle.clean.specs.declared.mark.Mark.the-variants.{Unseen}
+use Rattle.clean.proofs.Complete.{known-built, open-ring}
 use Rattle.clean.proofs.Marks.{unseen-known, unseen-open}
 
 pub fresh : (n k : ℕ) → mark-of (replicate n Unseen) k ≡ Unseen
@@ -42,63 +31,7 @@ fresh n k =
 pub fresh-sound : (d : List Item) (n : ℕ) → length d ≤ n → Sound d (replicate n Unseen)
 fresh-sound d n h = record { room = rw length-replicate h; finished = λ k v e. absurd (unseen-known (fresh n k) e) }
 
--- what is known, as a test
-known-mark : (m : Mark) → is-known m ≡ true → (v : Value) × (m ≡ Known v)
-known-mark Unseen e = absurd (false≢true e)
-known-mark Open e = absurd (false≢true e)
-known-mark (Known v) e = (v, refl)
-
--- with the marks ms every open item waits for an open one, and item k is seen
-module _ (d : List Item) (ms : List Mark) (k : ℕ) (sound : Sound d ms) (waits : (j : ℕ) → Is-open ms j → Waits d ms j) (first : Seen d ms k) where
-  stuck : (j : ℕ) → Is-open ms j → Stuck d (Is-open ms) j
-  stuck j e = let w = waits j e in record { script = w .script; next = w .held .next; is-made = w .is-made; asked = w .held .asked; again = w .held .is-open }
-
-  open-none : (j : ℕ) → Is-open ms j → (v : Value) → Makes d j v → ⊥
-  open-none j e v m = stuck-none (Is-open ms) stuck m e
-
-  pub open-ring : (j : ℕ) → Is-open ms j → clean d j ≡ ring
-  open-ring j e = stuck-ring (Is-open ms) stuck j e
-
-  seen-closed : (i m : ℕ) (s : Script) → Seen d ms i → item d i ≡ made s → Asks d (task-of s) m → Seen d ms m
-  seen-closed i m s (inl (by-hand w)) is a = absurd (written-made w is)
-  seen-closed i m s (inl (by-mark {v = v} e)) is a =
-      let f = sound .finished i v e in
-      inl (f .heard m (subst (λ x. Asks d (task-of x) m) (made-one is (f .is-made)) a))
-  seen-closed i m s (inr e) is a =
-      let w = waits i e in
-      w .held .heard (open-none (w .held .next) (w .held .is-open)) m (subst (λ x. Asks d (task-of x) m) (made-one is (w .is-made)) a)
-
-  known-if : (j : ℕ) (s : Script) (v : Value) → item d j ≡ made s → Makes d j v → Seen d ms j → is-known (mark-of ms j) ≡ true
-  known-if j s v is m (inl (by-hand w)) = absurd (written-made w is)
-  known-if j s v is m (inl (by-mark e)) = ap is-known e
-  known-if j s v is m (inr e) = absurd (open-none j e v m)
-
-  due-known : (j : ℕ) → Due d [] k j → In j (known-items ms (length d))
-  due-known j due =
-      in-passing (λ i. is-known (mark-of ms i)) 0 (length d) j
-      (known-if j (due .script) (due .gave) (due .is-made) (due .has) (reached-all (Seen d ms) seen-closed first (due .looked)))
-      (omega arith)
-      (omega (arith, made-there d j (due .is-made)))
-
-  module _ (looked : (j : ℕ) (v : Value) → Is-known ms j v → Reached d k j) where
-    known-due : (j : ℕ) → In j (known-items ms (length d)) → Due d [] k j
-    known-due j i =
-        let (v, e) = known-mark (mark-of ms j) (passing-in (λ x. is-known (mark-of ms x)) 0 (length d) j i .0) in
-        let f = sound .finished j v e in
-        record { looked = looked j v e; script = f .script; is-made = f .is-made; gave = v; has = f .makes; unsaved = λ saved. absurd (omega (arith, saved .kept)) }
-
-    pub known-built : Built d [] 0 k (clean d k) (known-items ms (length d)) []
-    unfolding built-of
-    known-built =
-        let fits = reference-fits d [] k 0 in
-        let same = rising-unique (known-items ms (length d)) (built-of d [] 0 k .ran) (passing-rising (λ x. is-known (mark-of ms x)) 0 (length d)) (fits .rising) (λ j i. fits .due-all j (known-due j i)) (λ j i. due-known j (fits .all-due j i)) in
-        subst (λ l. Built d [] 0 k (clean d k) l []) (sym same) fits
-
--- item k was evaluated with fresh marks
-module _ (d : List Item) (n : ℕ) (ms : List Mark) (k : ℕ) (sound : Sound d ms) (kept : Kept (Reached d k) (replicate n Unseen) ms) where
-  now-known : (j : ℕ) (v : Value) → Is-known ms j v → Reached d k j
-  now-known j v e = ⊎-elim (λ old. absurd (unseen-known (fresh n j) old)) (λ r. r) (kept .new j v e)
-
+module _ (d : List Item) (n : ℕ) (ms : List Mark) (k : ℕ) where
   now-waits : (r : CleanAnswer) → Item-out d (replicate n Unseen) ms k r → (j : ℕ) → Is-open ms j → Waits d ms j
   now-waits (Valued v) out j e = absurd (unseen-open (fresh n j) (out .opened j e))
   now-waits Ring out j e = ⊎-elim (λ old. absurd (unseen-open (fresh n j) old)) (λ w. w) (out .opened j e)
@@ -107,9 +40,13 @@ module _ (d : List Item) (n : ℕ) (ms : List Mark) (k : ℕ) (sound : Sound d m
   now-seen (Valued v) out = inl (out .settled)
   now-seen Ring out = inr (out .is-open)
 
-  pub whole-built : (r : CleanAnswer) → Item-out d (replicate n Unseen) ms k r → Built d [] 0 k (clean d k) (known-items ms (length d)) []
-  whole-built r out = known-built d ms k sound (now-waits r out) (now-seen r out) now-known
+  pub whole-built : (r : CleanAnswer) → Evaluated d (replicate n Unseen) ms k r → Built d [] 0 k (clean d k) (known-items ms (length d)) []
+  whole-built r done =
+      known-built d ms k (done .sound) (now-waits r (done .outcome)) (now-seen r (done .outcome))
+      (λ j v e. ⊎-elim (λ old. absurd (unseen-known (fresh n j) old)) (λ looked. looked) (done .kept .new j v e))
 
-  pub whole-answer : (r : CleanAnswer) → Item-out d (replicate n Unseen) ms k r → r ≡ says (clean d k)
-  whole-answer (Valued v) out = ap says (sym (makes-clean (out .makes)))
-  whole-answer Ring out = ap says (sym (open-ring d ms k sound (now-waits Ring out) (now-seen Ring out) k (out .is-open)))
+  pub whole-answer : (r : CleanAnswer) → Evaluated d (replicate n Unseen) ms k r → r ≡ says (clean d k)
+  whole-answer (Valued v) done = ap says (sym (makes-clean (done .outcome .makes)))
+  whole-answer Ring done =
+      let out = done .outcome in
+      ap says (sym (open-ring d ms k (done .sound) (now-waits Ring out) (now-seen Ring out) k (out .is-open)))

@@ -21,7 +21,8 @@ use listing::list_known;
 use mark::Mark;
 use script::Refusal;
 
-// Builds an item of the row; `ran` takes the count of the items whose scripts ran to their end, and then their numbers.
+// Builds an item of the row. `ran` takes the count of the items whose scripts ran to their end, and then their numbers;
+// it is refused if it has no room for all items.
 pub fn clean_build(items: &[u64], ran: &mut [u64], item: u64) -> Result<CleanAnswer, Refusal>
     ensures fault { λ r. ⌜ errPart r ≡ list-fault (items-in (now (items .entry))) (now (ran .entry)) ⌝ }
     ensures answer { λ r. ⌜ made r (λ answer. answer ≡ says (clean (items-in (now (items .entry))) item)) ⌝ }

@@ -17,13 +17,12 @@ evaluate-answer-requires c κs =
 pub returns : need.returns
 returns c =
     let d = items-in (c .args .items .now) in
-    let after = c .evaluate-answer .ensures in
     record {
       fault = grind (arith, tells, c .item-count-count .ensures .value);
-      answer = whole-answer d 256 _ (c .args .item) (after .sound) (after .kept) (c .evaluate-answer .result) (after .outcome);
+      answer = whole-answer d 256 _ (c .args .item) (c .evaluate-answer .result) (c .evaluate-answer .ensures);
       list = record {
         ran = known-items (c .evaluate-answer .last .marks) (length d);
-        built = whole-built d 256 _ (c .args .item) (after .sound) (after .kept) (c .evaluate-answer .result) (after .outcome);
+        built = whole-built d 256 _ (c .args .item) (c .evaluate-answer .result) (c .evaluate-answer .ensures);
         row = c .list-known .ensures ∙ ap (λ n. listed (known-items (c .evaluate-answer .last .marks) n) (c .args .ran .now)) (c .item-count-count .ensures .value);
       };
     }

@@ -3,61 +3,56 @@ use native.Mathlib.Omega.{arith}
 use borrow.Author.Needs.{needs}
 use Rattle.script.specs.Machine.{rest}
 use Rattle.script.specs.Rows.{script-in}
-use Rattle.theory.specs.Clean.{as-written}
-use Rattle.clean.specs.Marks.{by-hand, by-mark}
 use Rattle.clean.specs.Outcomes.{Evaluated}
+use Rattle.clean.proofs.Already.{known-already, written-evaluated}
 use Rattle.clean.proofs.Bounds.{made-few}
-use Rattle.clean.proofs.Evaluating.{held-evaluated, known-evaluated, marked-there, opened-ready}
-use Rattle.clean.proofs.Kept.{kept-same}
+use Rattle.clean.proofs.Closing.{held-evaluated, known-evaluated}
+use Rattle.clean.proofs.Opening.{marked-there, opened-ready}
 use Rattle.clean.proofs.Running.{running-ends, running-held, running-on, running-start}
 use Rattle.clean.proofs.evaluate.+evaluate+run_script.Needs as need
 
 pub evaluate-returns-in-Written : need.evaluate-returns-in-Written
-evaluate-returns-in-Written t c =
-    let is = c .in-Written .ensures tt in
-    record { sound = c .pre .sound; kept = kept-same; outcome = record { makes = as-written is; settled = by-hand is; opened = λ k e. e } }
+evaluate-returns-in-Written t c = written-evaluated (c .pre .sound) _ _ (c .in-Written .ensures tt)
 
 pub evaluate-offset-marks-item : need.evaluate-offset-marks-item
 evaluate-offset-marks-item t c = omega (arith, made-few (c .args .items .now) (c .args .item) (c .in-Made .ensures tt))
 
 pub evaluate-index : need.evaluate-index
-evaluate-index t c = marked-there _ _ _ (c .pre .sound) (c .in-Made .ensures tt)
+evaluate-index t c = marked-there _ (c .pre .sound) (c .in-Made .ensures tt)
 
 pub evaluate-index-marks-item : need.evaluate-index-marks-item
-evaluate-index-marks-item t c = marked-there _ _ _ (c .pre .sound) (c .in-Made .ensures tt)
+evaluate-index-marks-item t c = marked-there _ (c .pre .sound) (c .in-Made .ensures tt)
 
 pub evaluate-returns-in-Known : need.evaluate-returns-in-Known
-evaluate-returns-in-Known t c =
-    let known = c .in-Known .is in
-    record { sound = c .pre .sound; kept = kept-same; outcome = record { makes = c .pre .sound .finished _ _ known .makes; settled = by-mark known; opened = λ k e. e } }
+evaluate-returns-in-Known t c = known-already (c .pre .sound) _ _ (c .in-Known .is)
 
 pub evaluate-offset-marks-item-in-Unseen : need.evaluate-offset-marks-item-in-Unseen
 evaluate-offset-marks-item-in-Unseen t c = omega (arith, made-few (c .args .items .now) (c .args .item) (c .in-Made .ensures tt))
 
 pub evaluate-index-marks-item-in-Unseen : need.evaluate-index-marks-item-in-Unseen
-evaluate-index-marks-item-in-Unseen t c = marked-there _ _ _ (c .pre .sound) (c .in-Made .ensures tt)
+evaluate-index-marks-item-in-Unseen t c = marked-there _ (c .pre .sound) (c .in-Made .ensures tt)
 
 pub evaluate-sub-depth : need.evaluate-sub-depth
-evaluate-sub-depth t c = opened-ready _ _ _ (c .pre .sound) (c .in-Made .ensures tt) (c .in-Unseen .is) (c .pre .deep) .0
+evaluate-sub-depth t c = opened-ready (record { sound = c .pre .sound; is-made = c .in-Made .ensures tt; is-unseen = c .in-Unseen .is }) (c .pre .deep) .0
 
 pub evaluate-run-script-answer-requires : need.evaluate-run-script-answer-requires
 evaluate-run-script-answer-requires t c κs =
-    let ready = opened-ready _ _ _ (c .pre .sound) (c .in-Made .ensures tt) (c .in-Unseen .is) (c .pre .deep) in
+    let ready = opened-ready (record { sound = c .pre .sound; is-made = c .in-Made .ensures tt; is-unseen = c .in-Unseen .is }) (c .pre .deep) in
     (search needs, ready .1)
 
 pub evaluate-offset-marks-item-in-Value : need.evaluate-offset-marks-item-in-Value
 evaluate-offset-marks-item-in-Value t c = omega (arith, made-few (c .args .items .now) (c .args .item) (c .in-Made .ensures tt))
 
 pub evaluate-index-marks-item-in-Value : need.evaluate-index-marks-item-in-Value
-evaluate-index-marks-item-in-Value t c = marked-there _ _ _ (c .in-Value .ensures tt .sound) (c .in-Made .ensures tt)
+evaluate-index-marks-item-in-Value t c = marked-there _ (c .in-Value .ensures tt .sound) (c .in-Made .ensures tt)
 
 pub evaluate-returns-in-Value : need.evaluate-returns-in-Value
-evaluate-returns-in-Value t c = known-evaluated _ _ _ (c .pre .sound) (c .in-Made .ensures tt) (c .in-Unseen .is) (c .in-Value .ensures tt)
+evaluate-returns-in-Value t c = known-evaluated (record { sound = c .pre .sound; is-made = c .in-Made .ensures tt; is-unseen = c .in-Unseen .is }) (c .in-Value .ensures tt)
 
 pub evaluate-returns-in-rest : need.evaluate-returns-in-rest
 evaluate-returns-in-rest t c =
     subst (Evaluated _ _ (c .run-script-answer .last .marks) _) (sym (c .in-rest .is))
-    (held-evaluated _ _ _ (c .pre .sound) (c .in-Made .ensures tt) (c .in-Unseen .is) (c .in-rest .ensures tt))
+    (held-evaluated (record { sound = c .pre .sound; is-made = c .in-Made .ensures tt; is-unseen = c .in-Unseen .is }) (c .in-rest .ensures tt))
 
 pub run-script-loop-value-holds : need.run-script-loop-value-holds
 run-script-loop-value-holds t c = running-start _ _ (c .new-registers .ensures) (c .pre .sound)
