@@ -1,9 +1,9 @@
 -- What one entry more does to a store's row. Assumes nothing.
 use mathlib.Core.List.{List, [], _∷_, _++_}
-use mathlib.Core.Path.{_≡_, refl, sym, _∙_, ap}
+use mathlib.Core.Path.{_≡_, sym, _∙_, ap}
 use Prim.Native.Nat.{ℕ, _+_, _-_, _*_, _<_, _≤_}
 use native.Mathlib.Omega.{arith}
-use lib.ListN.{length, getD, set, take, drop}
+use lib.ListN.{length, take, drop}
 use Rattle.std.proofs.shelf.Lists.{append-assoc, drop-at, drop-drop, drop-set-lt, drop-take, getD-append-left, getD-set-other, getD-set-same, getD-take, length-append, length-drop, length-set, length-take-le, take-at}
 use Rattle.rows.specs.Rows.{chunks}
 use Rattle.rows.proofs.Chunks.{chunks-more, chunks-same}

@@ -1,23 +1,21 @@
 -- Why the answer, the list and the entries are right once the item is evaluated. Assumes nothing.
-use mathlib.Core.Bool.{true, false}
+use mathlib.Core.Bool.{true}
 use mathlib.Core.List.{List, [], _∷_, _++_, map}
 use mathlib.Core.Logic.{_⊎_, inl, inr, ⊎-elim}
-use mathlib.Core.Path.{_≡_, refl, sym, _∙_, ap, subst}
-use Prim.Native.Nat.{ℕ, _+_, _-_, _≤_, _<_}
+use mathlib.Core.Path.{_≡_, refl, sym, ap, subst}
+use Prim.Native.Nat.{ℕ, _+_, _-_, _≤_}
 use native.Mathlib.Omega.{arith}
 use lib.ListN.{length, take}
-use Rattle.std.specs.declared.option.Option.{Option}
-use Rattle.std.specs.declared.option.Option.the-variants.{None, Some}
 use Rattle.std.proofs.shelf.Tests.{false≢true}
 use Rattle.script.specs.Rule.{Script, Task, Value, asks, task-of}
 use Rattle.entry.specs.Entry.{All-honest, Entry}
 use Rattle.entry.specs.Rows.{askings-in}
 use Rattle.entry.specs.declared.asking.Asking.{Asking}
 use Rattle.theory.specs.Build.{Built, Due, Each-left, In, Left, Saved, and-one, here, no-more, there}
-use Rattle.theory.specs.Clean.{Asks, Makes, Out, Reached, clean, later, now, ring, value}
+use Rattle.theory.specs.Clean.{Asks, Makes, Out, Reached, clean, later, now, ring}
 use Rattle.theory.specs.Items.{Item, item, made}
 use Rattle.theory.specs.Rings.{Stuck}
-use Rattle.theory.proofs.Bound.{makes-clean, stuck-ring}
+use Rattle.theory.proofs.Bound.{stuck-ring}
 use Rattle.theory.proofs.Needs.{reached-all}
 use Rattle.theory.proofs.Passing.{in-passing, passing-in, passing-rising}
 use Rattle.theory.proofs.Rings.{made-there}
@@ -25,14 +23,13 @@ use Rattle.theory.proofs.Stuck.{stuck-none}
 use Rattle.theory.proofs.Values.{made-one, written-made}
 use Rattle.items.specs.Rows.{max-items}
 use Rattle.build.specs.Leaves.{is-run, left-all, left-from, left-of, ran-list, script-of}
-use Rattle.build.specs.Made.{Evaluated}
 use Rattle.build.specs.Scratch.{fresh, state-of}
-use Rattle.build.specs.Sound.{Grown, Held, Known, Ready, Settled, Sound, Waiting, by-entry, by-hand, by-run}
+use Rattle.build.specs.Sound.{Grown, Known, Ready, Settled, Waiting, by-entry, by-hand, by-run}
 use Rattle.build.specs.declared.scratch.Scratch.{Scratch}
 use Rattle.build.specs.declared.scratch.State.{State}
 use Rattle.build.specs.declared.scratch.State.the-variants.{Found, Open, Ran, Unseen}
 use Rattle.build.proofs.Evaluates.{known-makes}
-use Rattle.build.proofs.States.{found-seen, fresh-unseen, open-seen, ran-seen, unseen-most}
+use Rattle.build.proofs.States.{found-seen, fresh-unseen, ran-seen, unseen-most}
 use Rattle.build.proofs.Walks.{ended-asks, held-asks, walked-asks, walked-runs}
 
 pub fresh-ready : {d : List Item} {es : List Entry} → All-honest es → length d ≤ max-items → Ready d es fresh (length d + 1)

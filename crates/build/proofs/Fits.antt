@@ -2,7 +2,7 @@
 use mathlib.Core.Bool.{Bool, true, false, cond}
 use mathlib.Core.List.{List, [], _∷_}
 use mathlib.Core.Logic.{⊎-elim}
-use mathlib.Core.Path.{_≡_, sym, _∙_, ap, subst}
+use mathlib.Core.Path.{sym, subst}
 use Prim.Native.Nat.{ℕ, _+_, _*_, _≤_}
 use native.Mathlib.Omega.{arith}
 use lib.Dec.{eqb}
@@ -15,12 +15,11 @@ use Rattle.script.specs.Layout.{max-lines}
 use Rattle.script.specs.Rows.{script-in}
 use Rattle.script.specs.Rule.{Script, Value}
 use Rattle.script.proofs.Lines.{script-short}
-use Rattle.entry.specs.Entry.{Entry}
 use Rattle.entry.specs.Rows.{Fitting}
 use Rattle.entry.proofs.Askings.{askings-few}
 use Rattle.theory.specs.Items.{Item, item, made, written}
 use Rattle.items.specs.Rows.{first-item, item-size, items-in, max-items}
-use Rattle.build.specs.Leaves.{left-all, left-from, left-of, script-of}
+use Rattle.build.specs.Leaves.{left-all, left-from, script-of}
 use Rattle.build.specs.Scratch.{state-of}
 use Rattle.build.specs.declared.scratch.Scratch.{Scratch}
 use Rattle.build.specs.declared.scratch.State.{State}

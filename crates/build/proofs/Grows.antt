@@ -1,20 +1,17 @@
 -- How one part of a build follows another. Assumes nothing.
 use mathlib.Core.List.{List}
-use mathlib.Core.Logic.{_⊎_, inl, inr, ⊎-elim}
-use mathlib.Core.Path.{_≡_, refl, sym, _∙_}
-use Prim.Native.Nat.{ℕ, _≤_}
+use mathlib.Core.Logic.{inl, inr, ⊎-elim}
+use mathlib.Core.Path.{refl, _∙_}
+use Prim.Native.Nat.{ℕ}
 use native.Mathlib.Omega.{arith}
 use lib.ListN.{length}
 use Rattle.script.specs.Rule.{Task}
 use Rattle.entry.specs.Entry.{Entry}
 use Rattle.theory.specs.Clean.{Asks, Reached}
 use Rattle.theory.specs.Items.{Item}
-use Rattle.build.specs.Scratch.{state-of}
-use Rattle.build.specs.Sound.{Closed, Ended, Grown, Later, Looked, Ready, Sound, Stopped, Waiting, Went}
+use Rattle.build.specs.Sound.{Ended, Grown, Later, Looked, Ready, Sound, Went}
 use Rattle.build.specs.declared.scratch.Scratch.{Scratch}
-use Rattle.build.specs.declared.scratch.State.the-variants.{Open, Unseen}
-use Rattle.build.proofs.States.{later-unseen, open-seen, unseen-fewer}
-use Rattle.build.proofs.Walks.{waiting-keeps}
+use Rattle.build.proofs.States.{later-unseen, unseen-fewer}
 
 pub later-join : {σ σ₁ σ₂ : Scratch} → Later σ σ₁ → Later σ₁ σ₂ → Later σ σ₂
 later-join l m = record { stays = λ j seen. m .stays j (λ un. seen (later-unseen l j un)) ∙ l .stays j seen }

@@ -1,13 +1,13 @@
 -- An entry is read from its own numbers alone. Assumes nothing.
 use mathlib.Core.List.{List, _++_}
 use mathlib.Core.Path.{_≡_, refl, sym, _∙_, ap}
-use Prim.Native.Nat.{ℕ, _+_, _-_, _<_, _≤_}
+use Prim.Native.Nat.{ℕ, _-_, _<_}
 use native.Mathlib.Omega.{arith}
-use lib.ListN.{length, getD, take, drop}
+use lib.ListN.{getD, take, drop}
 use Rattle.std.proofs.shelf.Lists.{drop-take, getD-take, take-at}
 use Rattle.rows.proofs.Counted.{counted-take}
 use Rattle.script.specs.Layout.{line-size, max-askings, max-lines, script-size}
-use Rattle.script.specs.Rows.{first-line, script-in}
+use Rattle.script.specs.Rows.{first-line}
 use Rattle.entry.specs.Entry.{Entry}
 use Rattle.entry.specs.Layout.{asking-size, entry-size, result-at}
 use Rattle.entry.specs.Rows.{Fitting, askings-in, entry-in, entry-out, first-asking}

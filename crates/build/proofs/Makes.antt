@@ -2,7 +2,7 @@
 use mathlib.Core.List.{List}
 use mathlib.Core.Logic.{_⊎_, inl, inr, ⊎-elim}
 use mathlib.Core.Path.{_≡_, refl, sym, _∙_, ap, subst}
-use Prim.Native.Nat.{ℕ, suc, _≤_, _<_}
+use Prim.Native.Nat.{ℕ, suc, _<_}
 use native.Mathlib.Omega.{arith}
 use lib.ListN.{length}
 use Rattle.std.specs.declared.option.Option.the-variants.{None, Some}
@@ -19,12 +19,12 @@ use Rattle.theory.proofs.Rings.{made-there}
 use Rattle.theory.proofs.Values.{written-made}
 use Rattle.build.specs.Made.{Evaluated}
 use Rattle.build.specs.Scratch.{marked, state-of}
-use Rattle.build.specs.Sound.{Closed, Ended, Grown, Held, Known, Later, Looked, Ready, Settled, Sound, Stopped, Waiting, Walked, Went, by-entry, by-hand, by-run}
+use Rattle.build.specs.Sound.{Ended, Grown, Held, Known, Later, Looked, Ready, Settled, Sound, Waiting, Walked, Went, by-entry, by-hand, by-run}
 use Rattle.build.specs.declared.scratch.Scratch.{Scratch}
 use Rattle.build.specs.declared.scratch.State.{State}
 use Rattle.build.specs.declared.scratch.State.the-variants.{Found, Open, Ran, Unseen}
 use Rattle.build.proofs.Marks.{Marks, marks, marks-keeps, marks-sound}
-use Rattle.build.proofs.States.{found-seen, found-shut, later-unseen, open-seen, ran-seen, ran-shut, unseen-less}
+use Rattle.build.proofs.States.{found-shut, later-unseen, open-seen, ran-shut, unseen-less}
 use Rattle.build.proofs.Walks.{later-keeps, walked-keeps, walked-runs}
 
 found-one : {t : State} {v w : Value} → t ≡ Found v → t ≡ Found w → v ≡ w

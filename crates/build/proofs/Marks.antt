@@ -2,7 +2,7 @@
 use mathlib.Core.List.{List}
 use mathlib.Core.Logic.{⊎-elim}
 use mathlib.Core.Path.{_≡_, sym, _∙_, ap, subst}
-use Prim.Native.Nat.{ℕ, _≤_, _<_}
+use Prim.Native.Nat.{ℕ, _<_}
 use native.Mathlib.Omega.{arith}
 use lib.ListN.{length}
 use Rattle.std.proofs.shelf.Lists.{length-set}
@@ -17,7 +17,7 @@ use Rattle.build.specs.Scratch.{marked, state-of}
 use Rattle.build.specs.Sound.{Known, Settled, Sound, by-entry, by-hand, by-run}
 use Rattle.build.specs.declared.scratch.Scratch.{Scratch}
 use Rattle.build.specs.declared.scratch.State.{State}
-use Rattle.build.specs.declared.scratch.State.the-variants.{Found, Open, Ran, Unseen}
+use Rattle.build.specs.declared.scratch.State.the-variants.{Found, Ran}
 use Rattle.build.proofs.States.{marked-other, marked-same}
 use Rattle.build.proofs.Walks.{Keeps, known-keeps}
 

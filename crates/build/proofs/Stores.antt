@@ -1,27 +1,20 @@
 -- What entries one after the other do to a store's row. Assumes nothing.
-use mathlib.Core.Bool.{true, false, cond}
 use mathlib.Core.List.{List, [], _∷_, _++_}
 use mathlib.Core.Logic.{⊎-elim}
 use mathlib.Core.Path.{_≡_, refl, sym, _∙_, ap}
 use Prim.Native.Nat.{ℕ, zero, suc, _+_, _-_, _*_, _<_, _≤_, min}
 use native.Mathlib.Omega.{arith}
-use lib.Dec.{ltb}
 use lib.ListN.{length, take, drop}
-use Rattle.std.specs.declared.option.Option.the-variants.{None, Some}
 use Rattle.std.specs.shelf.Lists.{All}
 use Rattle.std.proofs.shelf.Elements.{all-take}
 use Rattle.std.proofs.shelf.Lists.{append-assoc, append-nil, length-take, take-take}
 use Rattle.std.proofs.shelf.Tests.{cases-lt, le-ltb, lt-ltb}
-use Rattle.script.specs.Allowed.{or-else}
-use Rattle.script.specs.declared.refusal.Refusal.{Refusal}
-use Rattle.script.specs.declared.refusal.Refusal.the-variants.{StoreFull, StoreOverfull, StoreTooShort}
 use Rattle.entry.specs.Entry.{Entry}
 use Rattle.entry.specs.Layout.{entry-size}
 use Rattle.entry.specs.Rows.{Fitting}
-use Rattle.store.specs.Faults.{add-fault, full-fault, store-fault}
 use Rattle.store.specs.Rows.{added, count-of, entries-in, entry-at, room-of}
 use Rattle.build.specs.Build.{Stored, old-part}
-use Rattle.build.specs.Leaves.{added-all, kept-all, kept-one, unless-fault}
+use Rattle.build.specs.Leaves.{added-all, kept-all, kept-one}
 use Rattle.build.proofs.Added.{count-added, entries-added, length-added, old-added, past-added, room-added}
 
 -- a store whose row is long enough, with no more entries than room

@@ -1,8 +1,8 @@
 -- Laws of settled items, and of tasks that came along their answers. Assumes nothing.
 use mathlib.Core.List.{List, [], _∷_, _++_}
 use mathlib.Core.Logic.{_⊎_, inl, inr, ⊎-elim}
-use mathlib.Core.Path.{_≡_, sym, _∙_, subst}
-use Prim.Native.Nat.{ℕ, _≤_}
+use mathlib.Core.Path.{_∙_, subst}
+use Prim.Native.Nat.{ℕ}
 use Rattle.std.specs.shelf.Lists.{All}
 use Rattle.std.proofs.shelf.Elements.{all-push}
 use Rattle.script.specs.Rule.{Task, Value, asks, done}
@@ -12,10 +12,9 @@ use Rattle.theory.specs.Clean.{Asks, Makes, Runs, later, now}
 use Rattle.theory.specs.Items.{Item}
 use Rattle.theory.proofs.Along.{along-asks, along-done, along-push}
 use Rattle.theory.proofs.Values.{done-asks-none, makes-unique}
-use Rattle.build.specs.Scratch.{state-of}
-use Rattle.build.specs.Sound.{Held, Known, Later, Settled, Waiting, Walked, by-entry, by-hand, by-run}
+use Rattle.build.specs.Sound.{Held, Known, Later, Settled, Walked, by-entry, by-hand, by-run}
 use Rattle.build.specs.declared.scratch.Scratch.{Scratch}
-use Rattle.build.proofs.States.{found-seen, open-seen, ran-seen}
+use Rattle.build.proofs.States.{found-seen, ran-seen}
 
 -- what is settled stays settled
 abbrev pub Keeps : List Item → Scratch → Scratch → Type 0
@@ -59,18 +58,6 @@ ended-asks w b = ⊎-elim (λ s. s) (λ no-way. absurd (done-asks-none no-way)) 
 -- a task that waits asks for what it waits for
 pub held-asks : {d : List Item} {σ : Scratch} {t : Task} (h : Held d σ t) → Asks d t (h .next)
 held-asks h = along-asks (h .walked .along) now
-
-pub held-keeps : {d : List Item} {σ σ₁ : Scratch} {t : Task} → Later σ σ₁ → Held d σ t → Held d σ₁ t
-held-keeps l h = record {
-  asked = h .asked;
-  next = h .next;
-  then = h .then;
-  walked = walked-keeps (later-keeps l) (h .walked);
-  still = l .stays (h .next) (open-seen (h .still)) ∙ h .still;
-}
-
-pub waiting-keeps : {d : List Item} {σ σ₁ : Scratch} {j : ℕ} → Later σ σ₁ → Waiting d σ j → Waiting d σ₁ j
-waiting-keeps l w = record { script = w .script; is-made = w .is-made; held = held-keeps l (w .held) }
 
 pub known-keeps : {d : List Item} {σ σ₁ : Scratch} {j : ℕ} {qs : List Asking} {v : Value} → Keeps d σ σ₁ → Known d σ j qs v → Known d σ₁ j qs v
 known-keeps keeps k = record { script = k .script; is-made = k .is-made; walked = walked-keeps keeps (k .walked) }

@@ -4,7 +4,7 @@ use mathlib.Core.Path.{_≡_}
 use Prim.Native.Nat.{ℕ, suc}
 use Rattle.std.specs.declared.option.Option.{Option}
 use Rattle.std.specs.declared.option.Option.the-variants.{None, Some}
-use Rattle.script.specs.Rule.{Script, Value, done, task-of}
+use Rattle.script.specs.Rule.{Script, done, task-of}
 use Rattle.entry.specs.Entry.{Entry}
 use Rattle.entry.specs.Rows.{askings-in}
 use Rattle.entry.specs.declared.asking.Asking.{Asking}

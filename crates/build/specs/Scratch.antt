@@ -1,5 +1,4 @@
 -- What the scratch of one build holds of each item. Assumes nothing: these are definitions.
-use mathlib.Core.Path.{_≡_}
 use Prim.Native.Nat.{ℕ, zero, suc, _+_}
 use lib.ListN.{getD, set, replicate}
 use Rattle.items.specs.Rows.{max-items}

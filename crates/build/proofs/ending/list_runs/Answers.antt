@@ -1,8 +1,8 @@
-use mathlib.Core.Path.{sym, _∙_, ap, subst}
+use mathlib.Core.Path.{_≡_, sym, _∙_, ap, subst}
 use Prim.Native.Nat.{_+_}
 use native.Mathlib.Omega.{arith}
-use Rattle.build.specs.Leaves.{is-run}
-use Rattle.build.proofs.Listing.{Listing, listing-more, listing-none, listing-same, not-run}
+use Rattle.build.specs.Leaves.{is-run, ran-list, told}
+use Rattle.build.proofs.Listing.{Listing, listing-end, listing-more, listing-none, listing-same, not-run}
 use Rattle.build.proofs.ending.list_runs.Needs as need
 use Rattle.build.proofs.ending.list_runs.Needs.{in-Ran, in-rest}
 
@@ -22,3 +22,8 @@ loop-item-again c =
           subst (λ n. Listing σ ran (i + 1) n (c .match-state .ran)) (sym (w .listed-is))
           (subst (λ row. Listing σ ran (i + 1) (c .loop-item .listed) row) (sym (w .ran-is)) (listing-same (c .loop-item .inv) (sym (ap is-run (c .state .ensures)) ∙ not-run (c .state .result) (w .in-rest .not-Ran))))
     ]
+
+pub returns : need.returns
+returns c =
+    let all : c .loop-item .item ≡ c .args .count = omega (arith, c .loop-item-test .left, c .loop-item .kept .item-end) in
+    listing-end (c .loop-item .inv) (omega (arith, c .pre .long)) ∙ ap (λ n. told (c .args .ran .now) (ran-list (c .args .scratch .now) n)) all

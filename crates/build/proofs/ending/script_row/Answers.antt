@@ -1,4 +1,4 @@
-use mathlib.Core.Path.{refl, sym, _∙_, ap}
+use mathlib.Core.Path.{sym, ap}
 use Rattle.rows.specs.Rows.{chunks}
 use Rattle.build.specs.Leaves.{script-of}
 use Rattle.build.proofs.ending.script_row.Needs as need

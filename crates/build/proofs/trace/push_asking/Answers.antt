@@ -1,7 +1,5 @@
 use Rattle.build.proofs.Pushes.{pushed}
 use Rattle.build.proofs.trace.push_asking.Needs as need
-use mathlib.Core.Path.{sym}
-use native.Mathlib.Omega.{arith}
 
 pub returns-then-count-lt-MAX-ASKINGS : need.returns-then-count-lt-MAX-ASKINGS
 returns-then-count-lt-MAX-ASKINGS c long few =
