@@ -24,10 +24,19 @@ fn main(rt: LibcRuntime) -> Result<(), AnyError> {
 fn run(rt: &LibcRuntime) -> Result<(), AnyError> {
     let mut arguments = env::args(rt)?;
     let _program = arguments.next();
-    let Some(path) = arguments.next() else {
-        return Err("usage: day FILE".into());
+    let Some(first) = arguments.next() else {
+        return Err("usage: day FILE..".into());
     };
-    let Ok(bytes) = fs::read(rt, path.as_str()) else {
+    perform_file(rt, first.as_str())?;
+    for path in arguments {
+        perform_file(rt, path.as_str())?;
+    }
+    Ok(())
+}
+
+// Each file is a day of its own, in a house of its own.
+fn perform_file(rt: &LibcRuntime, path: &str) -> Result<(), AnyError> {
+    let Ok(bytes) = fs::read(rt, path) else {
         return Err(format!(rt.alloc(), "cannot read {path}")?.into());
     };
     match read_day(rt.alloc(), bytes.as_slice()) {

@@ -23,7 +23,7 @@ pub struct Day {
     pub stopped: Option<Refusal>,
 }
 
-#[derive(Clone, Copy)]
+#[derive(Clone, Copy, Debug)]
 pub enum DayError {
     // The head is missing or out of bounds.
     HouseRefused,

@@ -6,4 +6,5 @@ mod pieces;
 
 pub use day::Day;
 pub use day::DayError;
+pub use day::DayErrorDebug;
 pub use day::read_day;

@@ -1,10 +1,10 @@
 // Commands that change the store, in a house with room for two entries.
 use super::examples::echo;
 use super::examples::same_entry;
-use super::examples::told;
 use entry::Asking;
 use house::Command;
 use house::HouseSize;
+use house::Told;
 use script::Line;
 use script::SourceLine;
 use std::alloc::AllocError;
@@ -57,7 +57,12 @@ fn echoing(heap: Global, answer: u64) -> Result<Command, AllocError> {
 }
 
 fn performed(command: &Command, rows: &mut [u64]) -> Option<(u64, u64)> {
-    told(command.perform(SIZE, rows))
+    let mut desks = [0; 131];
+    let mut ran = [0; 2];
+    match command.perform(SIZE, &mut desks, rows, &mut ran) {
+        Told::Refused(refusal) => Some((refusal.number(), refusal.place())),
+        _ => None,
+    }
 }
 
 fn removed(entry: u64, rows: &mut [u64]) -> Option<(u64, u64)> {
