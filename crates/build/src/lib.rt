@@ -1,4 +1,5 @@
 // The build that remembers: an item is made by a kept entry where one still holds, and run where none does.
+#![tactic(auto)]
 mod building;
 mod ending;
 mod lent;

@@ -1,4 +1,5 @@
 // Tests of builds: the worked day, what is remembered, long and wide desks, rings, and stores from elsewhere.
+#![tactic(auto)]
 #[cfg(test)]
 mod desk;
 #[cfg(test)]

@@ -1,4 +1,5 @@
 // Total reading of bytes: one that is not there reads as 0.
+#![tactic(auto)]
 ghost use Rattle.bytes.specs.Bytes.{low_first};
 ghost use Rattle.std.specs.Prelude.{◌≡◌, slice_index};
 

@@ -1,4 +1,5 @@
 // Performs days of commands from files, and prints what came of them.
+#![tactic(auto)]
 use anyhow::anyhow;
 use report::day_text;
 use std::{env, fs};

@@ -1,4 +1,5 @@
 // Reads the bytes of a day's file.
+#![tactic(auto)]
 mod command;
 mod day;
 mod head;

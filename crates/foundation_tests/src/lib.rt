@@ -1,4 +1,5 @@
 // Tests of scripts, the runner and the reader of a day, on examples whose answers come from the rules.
+#![tactic(auto)]
 #[cfg(test)]
 mod cases;
 #[cfg(test)]

@@ -1,4 +1,5 @@
 // The house: its desks, and the commands that are given at them.
+#![tactic(auto)]
 mod check;
 mod command;
 mod desk_commands;

@@ -1,4 +1,5 @@
 // From the bytes of a day to what is printed of it.
+#![tactic(auto)]
 mod lines;
 mod text;
 

@@ -1,4 +1,5 @@
 // Total access to a lent row: a number that is not there reads as 0 and takes no write.
+#![tactic(auto)]
 ghost use Rattle.std.specs.Prelude.{◌≡◌, ◌+◌, ◌-◌, ◌<◌, ◌≤◌, ◌++◌, length, take, drop, replicate, is_ok, if◌then◌else◌, MatchOption, slice_index, slice_set};
 ghost use Rattle.rows.specs.Rows.{written_at};
 

@@ -1,4 +1,5 @@
 // Scripts: their lines, how a line stands in a row, and the list of refusals.
+#![tactic(auto)]
 mod layout;
 mod line;
 mod refusal;

@@ -1,4 +1,5 @@
 // Whether a script from outside is let in.
+#![tactic(auto)]
 mod line_check;
 mod whole;
 

@@ -1,4 +1,5 @@
 // The store of entries in its row: adding, importing, removing, and the room for them.
+#![tactic(auto)]
 mod adding;
 mod check;
 mod empty;

@@ -1,4 +1,5 @@
 // Tests of entries and the store, on examples whose answers come from the rules.
+#![tactic(auto)]
 #[cfg(test)]
 mod examples;
 #[cfg(test)]

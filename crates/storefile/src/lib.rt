@@ -1,4 +1,5 @@
 // Reads the row of a store from the bytes of a file.
+#![tactic(auto)]
 ghost use Rattle.std.specs.Prelude.{◌≡◌, IfOk};
 ghost use Rattle.storefile.specs.File.{StoreRead, numbers_in};
 ghost use Rattle.storefile.specs.declared.StoreFileError.TheVariants.{OutOfMemory};
