@@ -17,13 +17,13 @@ use Rattle.theory.proofs.Stuck.{stuck_none}
 use Rattle.theory.proofs.Values.{made_one, written_made}
 use Rattle.items.specs.Rows.{max_items}
 use Rattle.build.specs.Leaves.{is_run, left_all, left_from, left_of, ran_list, script_of}
-use Rattle.build.specs.Scratch.{fresh, row_of, state_of}
-use Rattle.build.specs.Sound.{Grown, Known, Ready, Settled, Waiting, by_entry, by_hand, by_run, nobody}
+use Rattle.build.specs.Scratch.{fresh, state_of}
+use Rattle.build.specs.Sound.{Grown, Known, Ready, Settled, Waiting, by_entry, by_hand, by_run}
 use Rattle.build.specs.declared.scratch.Scratch.{Scratch}
 use Rattle.build.specs.declared.scratch.State.{State}
 use Rattle.build.specs.declared.scratch.State.TheVariants.{Found, Open, Ran, Unseen}
 use Rattle.build.proofs.Evaluates.{known_makes}
-use Rattle.build.proofs.States.{found_seen, fresh_blank, fresh_unseen, ran_seen, unseen_most}
+use Rattle.build.proofs.States.{found_seen, fresh_unseen, ran_seen, unseen_most}
 use Rattle.build.proofs.Walks.{ended_asks, held_asks, walked_asks, walked_runs}
 
 pub fresh_ready : {d : List Item} {es : List Entry} → AllHonest es → length d ≤ max_items → Ready d es fresh (length d + 1)
@@ -32,24 +32,23 @@ fresh_ready {d} honest few = record {
   sound = record {
     long = few;
     found = λ j v e. absurd (found_seen e (fresh_unseen j));
-    ran = λ j v e. absurd (ran_seen e (fresh_unseen j));
-    blank = λ j e. fresh_blank j;
+    ran = λ j v row e. absurd (ran_seen e (fresh_unseen j));
   };
   deep = omega (arith, unseen_most fresh (length d));
 }
 
-run_state : (t : State) → is_run t ≡ true → (v : Value) × (t ≡ Ran v)
+run_state : (t : State) → is_run t ≡ true → (v : Value) × (row : List ℕ) × (t ≡ Ran v row)
 run_state Unseen e = absurd (false≢true e)
 run_state Open e = absurd (false≢true e)
 run_state (Found v) e = absurd (false≢true e)
-run_state (Ran v) e = (v, refl)
+run_state (Ran v row) e = (v, row, refl)
 
 each_left : {d : List Item} (f : ℕ → Entry) (js : List ℕ) → ((j : ℕ) → In j js → Left d j (f j)) → EachLeft d js (map f js)
 each_left f [] left = no_more
 each_left f (j ∷ js) left = and_one (left j here) (each_left f js (λ i h. left i (there h)))
 
 -- at the end every item that is open waits for an item that is open
-module _ {d : List Item} {es : List Entry} {k : ℕ} {σ : Scratch} (grown : Grown d es nobody (Reached d k) fresh σ) (wait : (j : ℕ) → state_of σ j ≡ Open → Waiting d σ j) where
+module _ {d : List Item} {es : List Entry} {k : ℕ} {σ : Scratch} (grown : Grown d es (Reached d k) fresh σ) (wait : (j : ℕ) → state_of σ j ≡ Open → Waiting d σ j) where
   stuck : (j : ℕ) → state_of σ j ≡ Open → Stuck d (λ i. state_of σ i ≡ Open) j
   stuck j e = let w = wait j e in record { script = w.script; next = w.held.next; is_made = w.is_made; asked = held_asks w.held; again = w.held.still }
 
@@ -67,7 +66,7 @@ module _ {d : List Item} {es : List Entry} {k : ℕ} {σ : Scratch} (grown : Gro
   settled_asks : {i m : ℕ} {s : Script} → Settled d σ i → item d i ≡ made s → Asks d (task_of s) m → Settled d σ m
   settled_asks (by_hand w) is asked = absurd (written_made w is)
   settled_asks {i} (by_entry {v = v} e) is asked = known_asks (grown.sound.found i v e).1.1 is asked
-  settled_asks {i} (by_run {v = v} e) is asked = known_asks (grown.sound.ran i v e).1 is asked
+  settled_asks {i} (by_run {v = v} {row = row} e) is asked = known_asks (grown.sound.ran i v row e).1 is asked
 
   next_only : {n m : ℕ} {c : Value → Task} → state_of σ n ≡ Open → Asks d (asks n c) m → state_of σ m ≡ Open
   next_only e now = e
@@ -85,13 +84,13 @@ module _ {d : List Item} {es : List Entry} {k : ℕ} {σ : Scratch} (grown : Gro
       (λ i m s seen is asked. ⊎_elim (λ settled. inl (settled_asks settled is asked)) (λ e. open_asks i e is asked) seen) at_k
 
   module _ (at_k : Settled d σ k ⊎ (state_of σ k ≡ Open)) where
-    listed_state : (j : ℕ) → In j (ran_list σ (length d)) → (v : Value) × (state_of σ j ≡ Ran v)
+    listed_state : (j : ℕ) → In j (ran_list σ (length d)) → (v : Value) × (row : List ℕ) × (state_of σ j ≡ Ran v row)
     listed_state j i = run_state (state_of σ j) (passing_in (λ x. is_run (state_of σ x)) 0 (length d) j i).0
 
     all_due : (j : ℕ) → In j (ran_list σ (length d)) → Due d es k j
     all_due j i =
-        let (v, e) = listed_state j i in
-        let (unsaved, known) = grown.sound.ran j v e in
+        let (v, row, e) = listed_state j i in
+        let (unsaved, known) = grown.sound.ran j v row e in
         record {
           looked = ⊎_elim (λ un. absurd (ran_seen e un)) (λ r. r) (grown.new j (fresh_unseen j));
           script = known.script;
@@ -115,10 +114,10 @@ module _ {d : List Item} {es : List Entry} {k : ℕ} {σ : Scratch} (grown : Gro
 
     left : (j : ℕ) → In j (ran_list σ (length d)) → Left d j (left_of d σ j)
     left j i =
-        let (v, e) = listed_state j i in
-        let known = (grown.sound.ran j v e).1 in
+        let (v, row, e) = listed_state j i in
+        let known = (grown.sound.ran j v row e).1 in
         let s = known.script in
-        let same : left_of d σ j ≡ record { script = s; asked = askings_in (row_of σ j); result = v } = (λ x. left_from (script_of (known.is_made x)) (row_of σ j) (e x)) in
+        let same : left_of d σ j ≡ record { script = s; asked = askings_in row; result = v } = (λ x. left_from (script_of (known.is_made x)) (e x)) in
         subst (λ f. Left d j f) (sym same) (record { its = known.is_made; ran = walked_runs known.walked })
 
     pub ends : (room : ℕ) (o : Out) (fs : List Entry) → o ≡ clean d k → fs ≡ es ++ take (room - length es) (left_all d σ (ran_list σ (length d))) → (b : Built d es room k o (ran_list σ (length d)) fs) × (b.new ≡ left_all d σ (ran_list σ (length d)))

@@ -34,8 +34,8 @@ module _ {d : List Item} {es : List Entry} {σ : Scratch} {depth : ℕ} (ready :
   pub is_found : {v : Value} → state_of σ j ≡ Found v → Evaluated d es σ j (Some v) σ
   is_found {v} e = (went_none ready.sound, known_makes (ready.sound.found j v e).1.1, by_entry e)
 
-  pub is_ran : {v : Value} → state_of σ j ≡ Ran v → Evaluated d es σ j (Some v) σ
-  is_ran {v} e = (went_none ready.sound, known_makes (ready.sound.ran j v e).1, by_run e)
+  pub is_ran : {v : Value} {row : List ℕ} → state_of σ j ≡ Ran v row → Evaluated d es σ j (Some v) σ
+  is_ran {v} {row} e = (went_none ready.sound, known_makes (ready.sound.ran j v row e).1, by_run e)
 
   pub is_open : state_of σ j ≡ Open → Evaluated d es σ j None σ
   is_open e = (ended_none ready.sound, e)

@@ -13,7 +13,7 @@ use Rattle.entry.proofs.Askings.{askings_few}
 use Rattle.theory.specs.Items.{Item, item, made, written}
 use Rattle.items.specs.Rows.{first_item, item_size, items_in, max_items}
 use Rattle.build.specs.Leaves.{left_all, left_from, script_of}
-use Rattle.build.specs.Scratch.{row_of, state_of}
+use Rattle.build.specs.Scratch.{state_of}
 use Rattle.build.specs.declared.scratch.Scratch.{Scratch}
 use Rattle.build.specs.declared.scratch.State.{State}
 use Rattle.build.specs.declared.scratch.State.TheVariants.{Found, Open, Ran, Unseen}
@@ -32,12 +32,12 @@ short_scripts xs j =
     (λ past. subst short (sym (get_or_past (items_in xs) j (written 0) past)) (omega arith))
     (cases_lt j (length (items_in xs)))
 
-from_fits : (s : Script) (row : List ℕ) (t : State) → length s ≤ max_lines → Fitting (left_from s row t)
-from_fits s row Unseen h = (omega arith, omega arith)
-from_fits s row Open h = (omega arith, omega arith)
-from_fits s row (Found v) h = (omega arith, omega arith)
-from_fits s row (Ran v) h = (h, askings_few row)
+from_fits : (s : Script) (t : State) → length s ≤ max_lines → Fitting (left_from s t)
+from_fits s Unseen h = (omega arith, omega arith)
+from_fits s Open h = (omega arith, omega arith)
+from_fits s (Found v) h = (omega arith, omega arith)
+from_fits s (Ran v row) h = (h, askings_few row)
 
 pub left_fits : (xs : List ℕ) (σ : Scratch) (js : List ℕ) → All Fitting (left_all (items_in xs) σ js)
 left_fits xs σ [] = tt
-left_fits xs σ (j ∷ js) = (from_fits _ (row_of σ j) (state_of σ j) (short_scripts xs j), left_fits xs σ js)
+left_fits xs σ (j ∷ js) = (from_fits _ (state_of σ j) (short_scripts xs j), left_fits xs σ js)

@@ -4,7 +4,7 @@ use Rattle.script.specs.Rule.{Task}
 use Rattle.entry.specs.Entry.{Entry}
 use Rattle.theory.specs.Clean.{Asks, Reached}
 use Rattle.theory.specs.Items.{Item}
-use Rattle.build.specs.Sound.{Ended, Grown, Later, Looked, Ready, Sound, Went, nobody}
+use Rattle.build.specs.Sound.{Ended, Grown, Later, Looked, Ready, Sound, Went}
 use Rattle.build.specs.declared.scratch.Scratch.{Scratch}
 use Rattle.build.proofs.States.{later_unseen, unseen_fewer}
 
@@ -12,38 +12,27 @@ pub later_join : {σ σ₁ σ₂ : Scratch} → Later σ σ₁ → Later σ₁ �
 later_join l m = record { stays = λ j seen. m.stays j (λ un. seen (later_unseen l j un)) ∙ l.stays j seen }
 
 module _ {d : List Item} {es : List Entry} where
-  pub ready_grown : {Own From : ℕ → Type 0} {σ σ₁ : Scratch} {depth : ℕ} → Ready d es σ depth → Grown d es Own From σ σ₁ → Ready d es σ₁ depth
+  pub ready_grown : {From : ℕ → Type 0} {σ σ₁ : Scratch} {depth : ℕ} → Ready d es σ depth → Grown d es From σ σ₁ → Ready d es σ₁ depth
   ready_grown {σ = σ} {σ₁ = σ₁} r g = record { honest = r.honest; sound = g.sound; deep = omega (arith, unseen_fewer σ σ₁ (later_unseen g.later) (length d), r.deep) }
 
-  pub went_none : {Own From : ℕ → Type 0} {σ : Scratch} → Sound d es σ → Went d es Own From σ σ
-  went_none s = record { grown = record { later = record { stays = λ j seen. refl }; rows = λ j seen other. refl; sound = s; new = λ j un. inl un }; closed = λ j e. e }
+  pub went_none : {From : ℕ → Type 0} {σ : Scratch} → Sound d es σ → Went d es From σ σ
+  went_none s = record { grown = record { later = record { stays = λ j seen. refl }; sound = s; new = λ j un. inl un }; closed = λ j e. e }
 
-  pub ended_none : {Own From : ℕ → Type 0} {σ : Scratch} → Sound d es σ → Ended d es Own From σ σ
-  ended_none s = record { grown = record { later = record { stays = λ j seen. refl }; rows = λ j seen other. refl; sound = s; new = λ j un. inl un }; stopped = λ j e. inl e }
+  pub ended_none : {From : ℕ → Type 0} {σ : Scratch} → Sound d es σ → Ended d es From σ σ
+  ended_none s = record { grown = record { later = record { stays = λ j seen. refl }; sound = s; new = λ j un. inl un }; stopped = λ j e. inl e }
 
-  -- where no row was written, only these were
-  grown_any : {Own From : ℕ → Type 0} {σ σ₁ : Scratch} → Grown d es nobody From σ σ₁ → Grown d es Own From σ σ₁
-  grown_any g = record { later = g.later; rows = λ j seen other. g.rows j seen (λ none. none); sound = g.sound; new = g.new }
-
-  pub went_any : {Own From : ℕ → Type 0} {σ σ₁ : Scratch} → Went d es nobody From σ σ₁ → Went d es Own From σ σ₁
-  went_any w = record { grown = grown_any w.grown; closed = w.closed }
-
-  pub ended_any : {Own From : ℕ → Type 0} {σ σ₁ : Scratch} → Ended d es nobody From σ σ₁ → Ended d es Own From σ σ₁
-  ended_any w = record { grown = grown_any w.grown; stopped = w.stopped }
-
-  module _ {Own From Next : ℕ → Type 0} (from : (j : ℕ) → Next j → From j) {σ σ₁ σ₂ : Scratch} where
-    pub grown_join : Grown d es Own From σ σ₁ → Grown d es Own Next σ₁ σ₂ → Grown d es Own From σ σ₂
+  module _ {From Next : ℕ → Type 0} (from : (j : ℕ) → Next j → From j) {σ σ₁ σ₂ : Scratch} where
+    pub grown_join : Grown d es From σ σ₁ → Grown d es Next σ₁ σ₂ → Grown d es From σ σ₂
     grown_join g h = record {
       later = later_join g.later h.later;
-      rows = λ j seen other. h.rows j (λ un. seen (later_unseen g.later j un)) other ∙ g.rows j seen other;
       sound = h.sound;
       new = λ j un. ⊎_elim (λ un₁. ⊎_elim inl (λ f. inr (from j f)) (h.new j un₁)) (λ f. inr f) (g.new j un);
     }
 
-    pub went_join : Went d es Own From σ σ₁ → Went d es Own Next σ₁ σ₂ → Went d es Own From σ σ₂
+    pub went_join : Went d es From σ σ₁ → Went d es Next σ₁ σ₂ → Went d es From σ σ₂
     went_join g h = record { grown = grown_join g.grown h.grown; closed = λ j e. g.closed j (h.closed j e) }
 
-    pub ended_join : Went d es Own From σ σ₁ → Ended d es Own Next σ₁ σ₂ → Ended d es Own From σ σ₂
+    pub ended_join : Went d es From σ σ₁ → Ended d es Next σ₁ σ₂ → Ended d es From σ σ₂
     ended_join g h = record {
       grown = grown_join g.grown h.grown;
       stopped = λ j e. ⊎_elim (λ o. inl (g.closed j o)) inr (h.stopped j e);

@@ -3,15 +3,14 @@ mod States
 mod Walks
 mod Grows
 mod Marks
-mod Asked
 mod Evaluates
 mod Makes
-mod Settles
 mod Tests
 mod Recalls
 mod Runs
 mod Listing
 mod Keeping
+mod Locals
 mod Added
 mod Stores
 mod Ends

@@ -28,11 +28,11 @@ pub ran_same : (σ : Scratch) (i : ℕ) → is_run (state_of σ i) ≡ false →
 ran_same σ i e =
     rw add-one (one_more (λ j. is_run (state_of σ j)) 0 i i (omega arith) ∙ ap (λ b. ran_list σ i ++ cond b (i ∷ []) []) e ∙ append-nil (ran_list σ i))
 
-pub not_run : (t : State) → ((v : ℕ) → t ≡ Ran v → ⊥) → is_run t ≡ false
+pub not_run : (t : State) → ((v : ℕ) (row : List ℕ) → t ≡ Ran v row → ⊥) → is_run t ≡ false
 not_run Unseen other = refl
 not_run Open other = refl
 not_run (Found v) other = refl
-not_run (Ran v) other = absurd (other v refl)
+not_run (Ran v row) other = absurd (other v row refl)
 
 -- the runs among the first i items stand behind the row's first number
 pub record Listing (σ : Scratch) (ran : List ℕ) (i n : ℕ) (row : List ℕ) : Type 0 where

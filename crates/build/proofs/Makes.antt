@@ -1,5 +1,5 @@
 -- An item that was not seen is opened, and settled by an entry or a run; or it stays open. Assumes nothing.
-use Rattle.std.proofs.Common.{◌≡◌, ℕ, suc, ◌<◌, ◌⊎◌, List, [], length, Some, None, sym, refl, ap, ◌∙◌, subst, inl, inr, ⊎_elim, arith}
+use Rattle.std.proofs.Common.{◌≡◌, ℕ, suc, ◌<◌, ◌⊎◌, List, length, Some, None, sym, refl, ap, ◌∙◌, subst, inl, inr, ⊎_elim, arith}
 use Rattle.std.proofs.lemmas.Bool.{cases_eq}
 use Rattle.script.specs.Rule.{Script, Value, done, task_of}
 use Rattle.entry.specs.Entry.{Entry}
@@ -12,20 +12,20 @@ use Rattle.theory.proofs.Needs.{reached_join}
 use Rattle.theory.proofs.Rings.{made_there}
 use Rattle.theory.proofs.Values.{written_made}
 use Rattle.build.specs.Made.{Evaluated}
-use Rattle.build.specs.Scratch.{marked, row_of, state_of}
-use Rattle.build.specs.Sound.{Ended, Grown, Held, Known, Later, Looked, Ready, Settled, Sound, Waiting, Walked, Went, by_entry, by_hand, by_run, nobody, only}
+use Rattle.build.specs.Scratch.{marked, state_of}
+use Rattle.build.specs.Sound.{Ended, Grown, Held, Known, Later, Looked, Ready, Settled, Sound, Waiting, Walked, Went, by_entry, by_hand, by_run}
 use Rattle.build.specs.declared.scratch.Scratch.{Scratch}
 use Rattle.build.specs.declared.scratch.State.{State}
 use Rattle.build.specs.declared.scratch.State.TheVariants.{Found, Open, Ran, Unseen}
 use Rattle.build.proofs.Marks.{Marks, marks, marks_keeps, marks_sound}
-use Rattle.build.proofs.States.{found_seen, found_shut, later_unseen, open_seen, ran_seen, ran_shut, unseen_less}
+use Rattle.build.proofs.States.{found_shut, later_unseen, open_seen, ran_shut, unseen_less}
 use Rattle.build.proofs.Walks.{later_keeps, walked_keeps, walked_runs}
 
 found_one : {t : State} {v w : Value} → t ≡ Found v → t ≡ Found w → v ≡ w
 found_one p q = cc
 
-ran_one : {t : State} {v w : Value} → t ≡ Ran v → t ≡ Ran w → v ≡ w
-ran_one p q = cc
+ran_one : {t : State} {v w : Value} {row ns : List ℕ} → t ≡ Ran v row → t ≡ Ran w ns → (v ≡ w) × (row ≡ ns)
+ran_one p q = (cc, cc)
 
 not_settled : {d : List Item} {σ : Scratch} {j : ℕ} {s : Script} → item d j ≡ made s → state_of σ j ≡ Open → Settled d σ j → ⊥
 not_settled is e (by_hand h) = written_made h is
@@ -45,7 +45,7 @@ module _ {d : List Item} {es : List Entry} {σ : Scratch} {depth : ℕ} (ready :
     opened_later = record { stays = λ i seen. first.others i (λ e. seen (ap (state_of σ) e ∙ un)) }
 
     opened_sound : Sound d es σ₁
-    opened_sound = marks_sound first (later_keeps opened_later) ready.sound (λ v e. absurd (found_shut e refl)) (λ v e. absurd (ran_shut e refl)) (open_seen refl)
+    opened_sound = marks_sound first (later_keeps opened_later) ready.sound (λ v e. absurd (found_shut e refl)) (λ v row e. absurd (ran_shut e refl))
 
     pub opened_ready : Ready d es σ₁ depth
     opened_ready = record {
@@ -54,11 +54,7 @@ module _ {d : List Item} {es : List Entry} {σ : Scratch} {depth : ℕ} (ready :
       deep = omega (arith, unseen_less σ σ₁ (later_unseen opened_later) (length d) j (made_there d j is) un (open_seen first.here), ready.deep);
     }
 
-    -- nothing was asked for before the run
-    pub still_blank : {From : ℕ → Type 0} {σ₂ : Scratch} → Grown d es nobody From σ₁ σ₂ → askings_in (row_of σ₂ j) ≡ []
-    still_blank grown = ap askings_in (grown.rows j (open_seen first.here) (λ none. none) ∙ ap (λ τ. row_of τ j) opened) ∙ ready.sound.blank j un
-
-    module _ {σ₂ : Scratch} (grown : Grown d es (only j) (Looked d (task_of s)) σ₁ σ₂) where
+    module _ {σ₂ : Scratch} (grown : Grown d es (Looked d (task_of s)) σ₁ σ₂) where
       -- the item itself is open until it is settled
       pub still_open : state_of σ₂ j ≡ Open
       still_open = grown.later.stays j (open_seen first.here) ∙ first.here
@@ -77,18 +73,12 @@ module _ {d : List Item} {es : List Entry} {σ : Scratch} {depth : ℕ} (ready :
           let keeps = opened_later.stays i seen in
           grown.later.stays i (λ e. seen (sym keeps ∙ e)) ∙ keeps
 
-      same_rows : (i : ℕ) → (state_of σ i ≡ Unseen → ⊥) → row_of σ₂ i ≡ row_of σ i
-      same_rows i seen =
-          let other : i ≡ j → ⊥ = λ e. seen (ap (state_of σ) e ∙ un) in
-          grown.rows i (λ e. seen (sym (opened_later.stays i seen) ∙ e)) other ∙ first.rows i other
-
-    pub rings : {σ₂ : Scratch} → Ended d es (only j) (Looked d (task_of s)) σ₁ σ₂ → Held d σ₂ (task_of s) → Evaluated d es σ j None σ₂
+    pub rings : {σ₂ : Scratch} → Ended d es (Looked d (task_of s)) σ₁ σ₂ → Held d σ₂ (task_of s) → Evaluated d es σ j None σ₂
     rings {σ₂} e held =
         let own : Waiting d σ₂ j = record { script = s; is_made = is; held = held } in (
           record {
             grown = record {
               later = record { stays = same_later e.grown };
-              rows = λ i seen none. same_rows e.grown i seen;
               sound = e.grown.sound;
               new = λ i h. ⊎_elim (λ same. inr (subst (λ x. Reached d j x) (sym same) itself)) (λ other. new_from e.grown i other h) (cases_eq i j);
             };
@@ -103,13 +93,12 @@ module _ {d : List Item} {es : List Entry} {σ : Scratch} {depth : ℕ} (ready :
 
     -- the item is settled by a state that is neither open nor unseen
     settles :
-        {σ₂ σ₃ : Scratch} {t : State} {v : Value} → Went d es (only j) (Looked d (task_of s)) σ₁ σ₂ → Marks σ₂ j t σ₃ →
+        {σ₂ σ₃ : Scratch} {t : State} {v : Value} → Went d es (Looked d (task_of s)) σ₁ σ₂ → Marks σ₂ j t σ₃ →
         (t ≡ Open → ⊥) → Sound d es σ₃ → Makes d j v → Settled d σ₃ j → Evaluated d es σ j (Some v) σ₃
     settles {σ₂} {σ₃} w m shut sound makes settled = (
       record {
         grown = record {
           later = record { stays = λ i seen. m.others i (λ same. seen (ap (state_of σ) same ∙ un)) ∙ same_later w.grown i seen };
-          rows = λ i seen none. m.rows i (λ same. seen (ap (state_of σ) same ∙ un)) ∙ same_rows w.grown i seen;
           sound = sound;
           new = λ i h.
               ⊎_elim
@@ -131,7 +120,7 @@ module _ {d : List Item} {es : List Entry} {σ : Scratch} {depth : ℕ} (ready :
       settled,
     )
 
-    module _ {σ₂ : Scratch} {qs : List Asking} {v : Value} (w : Went d es (only j) (Looked d (task_of s)) σ₁ σ₂) (walked : Walked d σ₂ (task_of s) qs (done v)) where
+    module _ {σ₂ : Scratch} {qs : List Asking} {v : Value} (w : Went d es (Looked d (task_of s)) σ₁ σ₂) (walked : Walked d σ₂ (task_of s) qs (done v)) where
       inside_still : j < length σ₂.states
       inside_still = omega (arith, made_there d j is, w.grown.sound.long)
 
@@ -147,19 +136,18 @@ module _ {d : List Item} {es : List Entry} {σ : Scratch} {depth : ℕ} (ready :
           settles w m (found_shut refl)
           (marks_sound m (keeps_all m) w.grown.sound
           (λ u e. (saved, (qs, subst (λ x. Known d σ₃ j qs x) (found_one refl e) (known_now m))))
-          (λ u e. absurd (let z : ◌≡◌ {A = ℕ} 0 1 = cc in omega arith))
-          (found_seen refl))
+          (λ u row e. absurd (let z : ◌≡◌ {A = ℕ} 0 1 = cc in omega arith)))
           (by_script is (walked_runs walked))
           (by_entry m.here)
 
-      pub settles_ran : (σ₃ : Scratch) → σ₃ ≡ marked σ₂ j (Ran v) → askings_in (row_of σ₂ j) ≡ qs → (Saved d es j → ⊥) → Evaluated d es σ j (Some v) σ₃
-      settles_ran σ₃ done_so kept unsaved =
-          let m : Marks σ₂ j (Ran v) σ₃ = marks inside_still done_so in
-          let row : askings_in (row_of σ₃ j) ≡ qs = ap (λ τ. askings_in (row_of τ j)) done_so ∙ kept in
+      pub settles_ran : (row : List ℕ) (σ₃ : Scratch) → σ₃ ≡ marked σ₂ j (Ran v row) → askings_in row ≡ qs → (Saved d es j → ⊥) → Evaluated d es σ j (Some v) σ₃
+      settles_ran row σ₃ done_so kept unsaved =
+          let m : Marks σ₂ j (Ran v row) σ₃ = marks inside_still done_so in
           settles w m (ran_shut refl)
           (marks_sound m (keeps_all m) w.grown.sound
           (λ u e. absurd (let z : ◌≡◌ {A = ℕ} 0 1 = cc in omega arith))
-          (λ u e. (unsaved, subst (λ x. Known d σ₃ j (askings_in (row_of σ₃ j)) x) (ran_one refl e) (subst (λ x. Known d σ₃ j x v) (sym row) (known_now m))))
-          (ran_seen refl))
+          (λ u ns e.
+          let both = ran_one refl e in
+          (unsaved, subst (λ x. Known d σ₃ j (askings_in x) u) both.1 (subst (λ x. Known d σ₃ j (askings_in row) x) both.0 (subst (λ x. Known d σ₃ j x v) (sym kept) (known_now m))))))
           (by_script is (walked_runs walked))
           (by_run m.here)

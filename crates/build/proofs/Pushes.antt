@@ -9,7 +9,7 @@ use Rattle.script.specs.Layout.{max_askings}
 use Rattle.entry.specs.Layout.{asking_size, askings_size}
 use Rattle.entry.specs.Rows.{asking_out, askings_in, first_asking}
 use Rattle.entry.specs.declared.asking.Asking.{Asking}
-use Rattle.entry.proofs.Askings.{first_local}
+use Rattle.build.proofs.Locals.{asking_local}
 
 module _ (row : List ℕ) (n : ℕ) (q : Asking) (long : askings_size ≤ length row) (is : n ≡ length (askings_in row)) (few : n < max_askings) where
   at : ℕ
@@ -29,7 +29,7 @@ module _ (row : List ℕ) (n : ℕ) (q : Asking) (long : askings_size ≤ length
   before : chunks first_asking asking_size n (drop 1 row) ≡ chunks first_asking asking_size n (drop 1 with_q)
   unfolding at with_q
   before =
-      chunks_same first_asking asking_size first_local n (drop 1 row) (drop 1 with_q)
+      chunks_same first_asking asking_size asking_local n (drop 1 row) (drop 1 with_q)
       (sym (drop-take 1 (asking_size * n) row) ∙ ap (drop 1) (sym front) ∙ drop-take 1 (asking_size * n) with_q)
 
   here : q ≡ first_asking (drop (asking_size * n) (drop 1 with_q))

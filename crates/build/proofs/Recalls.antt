@@ -11,7 +11,7 @@ use Rattle.theory.specs.Build.{Usable}
 use Rattle.theory.specs.Items.{Item, made}
 use Rattle.theory.proofs.Values.{made_one}
 use Rattle.build.specs.Made.{RecalledSo, TestedSo}
-use Rattle.build.specs.Sound.{Ended, Held, Looked, Ready, Sound, Walked, Went, nobody}
+use Rattle.build.specs.Sound.{Ended, Held, Looked, Ready, Sound, Walked, Went}
 use Rattle.build.specs.declared.making.Recalled.TheVariants as recalled
 use Rattle.build.specs.declared.making.Tested.TheVariants as tested
 use Rattle.build.specs.declared.scratch.Scratch.{Scratch}
@@ -23,7 +23,7 @@ entry_there xs row n i h is = (rw length_chunks h, ap entry_in is ∙ sym (chunk
 
 -- none of the first i entries saves a run of the script
 pub record Recalling (d : List Item) (es : List Entry) (s : Script) (σ : Scratch) (i : ℕ) (σ₁ : Scratch) : Type 0 where
-  pub went : Went d es nobody (Looked d (task_of s)) σ σ₁
+  pub went : Went d es (Looked d (task_of s)) σ σ₁
   pub none : (p : ℕ) → p < i → s ≡ (get_or es p no_entry).script → Usable d (get_or es p no_entry) → ⊥
 
 pub recalling_none : {d : List Item} {es : List Entry} {s : Script} {σ : Scratch} → Sound d es σ → Recalling d es s σ 0 σ
@@ -34,7 +34,7 @@ module _ {d : List Item} {es : List Entry} {s : Script} {σ σ₁ : Scratch} {de
   recalling_end past = (so_far.went, λ j is saved. so_far.none saved.place (omega (arith, saved.kept)) (made_one is saved.its) saved.usable)
 
   module _ (e : Entry) (there : (i < length es) × (e ≡ get_or es i no_entry)) where
-    one_more : {σ₂ : Scratch} → Went d es nobody (Looked d (task_of s)) σ σ₂ → (s ≡ e.script → Usable d e → ⊥) → Recalling d es s σ (i + 1) σ₂
+    one_more : {σ₂ : Scratch} → Went d es (Looked d (task_of s)) σ σ₂ → (s ≡ e.script → Usable d e → ⊥) → Recalling d es s σ (i + 1) σ₂
     one_more went no_use = record {
       went = went;
       none = λ p h.
@@ -59,8 +59,8 @@ module _ {d : List Item} {es : List Entry} {s : Script} {σ σ₁ : Scratch} {de
 
     -- an entry of this script is tested
     module _ (its : s ≡ e.script) {σ₂ : Scratch} where
-      went_on : Went d es nobody (Looked d (task_of e.script)) σ₁ σ₂ → Went d es nobody (Looked d (task_of s)) σ σ₂
-      went_on went = went_join (λ j f. f) so_far.went (subst (λ x. Went d es nobody (Looked d (task_of x)) σ₁ σ₂) (sym its) went)
+      went_on : Went d es (Looked d (task_of e.script)) σ₁ σ₂ → Went d es (Looked d (task_of s)) σ σ₂
+      went_on went = went_join (λ j f. f) so_far.went (subst (λ x. Went d es (Looked d (task_of x)) σ₁ σ₂) (sym its) went)
 
       pub recalling_differs : (Ready d es σ₁ depth → Honest e → TestedSo d es e σ₁ tested.Differs σ₂) → Recalling d es s σ (i + 1) σ₂
       recalling_differs test = let (went, unusable) = test again honest in one_more (went_on went) (λ _. unusable)
@@ -68,7 +68,7 @@ module _ {d : List Item} {es : List Entry} {s : Script} {σ σ₁ : Scratch} {de
       pub recalling_ring : (Ready d es σ₁ depth → Honest e → TestedSo d es e σ₁ tested.Ring σ₂) → RecalledSo d es s σ recalled.Ring σ₂
       recalling_ring test =
           let (ended, held) = test again honest in
-          (ended_join (λ j f. f) so_far.went (subst (λ x. Ended d es nobody (Looked d (task_of x)) σ₁ σ₂) (sym its) ended), subst (λ x. Held d σ₂ (task_of x)) (sym its) held)
+          (ended_join (λ j f. f) so_far.went (subst (λ x. Ended d es (Looked d (task_of x)) σ₁ σ₂) (sym its) ended), subst (λ x. Held d σ₂ (task_of x)) (sym its) held)
 
       pub recalling_agrees : (v : Value) → v ≡ e.result → (Ready d es σ₁ depth → Honest e → TestedSo d es e σ₁ tested.Agrees σ₂) → RecalledSo d es s σ (recalled.Found v) σ₂
       recalling_agrees v result test =

@@ -1,13 +1,10 @@
 -- Laws of the states in the scratch of a build, and of how many items were not seen. Assumes nothing.
-use Rattle.std.proofs.Common.{◌≡◌, ℕ, zero, suc, ◌<◌, ◌≤◌, ◌⊎◌, [], length, replicate, sym, refl, ap, ◌∙◌, inl, inr, ⊎_elim, arith}
+use Rattle.std.proofs.Common.{◌≡◌, ℕ, zero, suc, ◌<◌, ◌≤◌, ◌⊎◌, List, length, replicate, sym, refl, ap, ◌∙◌, inl, inr, ⊎_elim, arith}
 use Rattle.std.proofs.lemmas.List.{get_or_past, get_or-replicate, get_or-set_other, get_or-set_same}
 use Rattle.std.proofs.lemmas.Bool.{cases_eq, cases_lt}
-use Rattle.rows.specs.Rows.{chunks}
 use Rattle.script.specs.Rule.{Value}
-use Rattle.entry.specs.Layout.{askings_size}
-use Rattle.entry.specs.Rows.{askings_in}
 use Rattle.items.specs.Rows.{max_items}
-use Rattle.build.specs.Scratch.{fresh, marked, one_unseen, row_of, state_of, unseen}
+use Rattle.build.specs.Scratch.{fresh, marked, one_unseen, state_of, unseen}
 use Rattle.build.specs.Sound.{Later}
 use Rattle.build.specs.declared.scratch.Scratch.{Scratch}
 use Rattle.build.specs.declared.scratch.State.{State}
@@ -19,20 +16,20 @@ open_seen p q = let z : ◌≡◌ {A = ℕ} 0 1 = cc in omega arith
 pub found_seen : {t : State} {v : Value} → t ≡ Found v → t ≡ Unseen → ⊥
 found_seen p q = let z : ◌≡◌ {A = ℕ} 0 1 = cc in omega arith
 
-pub ran_seen : {t : State} {v : Value} → t ≡ Ran v → t ≡ Unseen → ⊥
+pub ran_seen : {t : State} {v : Value} {row : List ℕ} → t ≡ Ran v row → t ≡ Unseen → ⊥
 ran_seen p q = let z : ◌≡◌ {A = ℕ} 0 1 = cc in omega arith
 
 pub found_shut : {t : State} {v : Value} → t ≡ Found v → t ≡ Open → ⊥
 found_shut p q = let z : ◌≡◌ {A = ℕ} 0 1 = cc in omega arith
 
-pub ran_shut : {t : State} {v : Value} → t ≡ Ran v → t ≡ Open → ⊥
+pub ran_shut : {t : State} {v : Value} {row : List ℕ} → t ≡ Ran v row → t ≡ Open → ⊥
 ran_shut p q = let z : ◌≡◌ {A = ℕ} 0 1 = cc in omega arith
 
 pub cases_seen : (t : State) → (t ≡ Unseen) ⊎ (t ≡ Unseen → ⊥)
 cases_seen Unseen = inl refl
 cases_seen Open = inr (λ e. open_seen refl e)
 cases_seen (Found v) = inr (λ e. found_seen refl e)
-cases_seen (Ran v) = inr (λ e. ran_seen refl e)
+cases_seen (Ran v row) = inr (λ e. ran_seen refl e)
 
 pub marked_same : (σ : Scratch) (j : ℕ) (t : State) → j < length σ.states → state_of (marked σ j t) j ≡ t
 marked_same σ j t h = get_or-set_same σ.states j t Unseen h
@@ -47,14 +44,6 @@ fresh_unseen j =
     (λ h. get_or_past (replicate max_items Unseen) j Unseen h)
     (cases_lt j max_items)
 
-pub fresh_blank : (j : ℕ) → askings_in (row_of fresh j) ≡ []
-unfolding chunks
-fresh_blank j =
-    ⊎_elim
-    (λ h. ap askings_in (get_or-replicate max_items j (replicate askings_size 0) [] h))
-    (λ h. ap askings_in (get_or_past (replicate max_items (replicate askings_size 0)) j [] h))
-    (cases_lt j max_items)
-
 -- what was seen stays so
 pub later_unseen : {σ σ₁ : Scratch} → Later σ σ₁ → (j : ℕ) → state_of σ₁ j ≡ Unseen → state_of σ j ≡ Unseen
 later_unseen {σ} later j e = ⊎_elim (λ un. un) (λ seen. sym (later.stays j seen) ∙ e) (cases_seen (state_of σ j))
@@ -63,13 +52,13 @@ one_later : (s t : State) → (t ≡ Unseen → s ≡ Unseen) → one_unseen t �
 one_later s Unseen back = omega (arith, ap one_unseen (back refl))
 one_later s Open back = omega arith
 one_later s (Found v) back = omega arith
-one_later s (Ran v) back = omega arith
+one_later s (Ran v row) back = omega arith
 
 seen_none : (t : State) → (t ≡ Unseen → ⊥) → one_unseen t ≡ 0
 seen_none Unseen seen = absurd (seen refl)
 seen_none Open seen = refl
 seen_none (Found v) seen = refl
-seen_none (Ran v) seen = refl
+seen_none (Ran v row) seen = refl
 
 module _ (σ σ₁ : Scratch) (back : (j : ℕ) → state_of σ₁ j ≡ Unseen → state_of σ j ≡ Unseen) where
   pub unseen_fewer : (n : ℕ) → unseen n σ₁ ≤ unseen n σ
@@ -99,7 +88,7 @@ one_most : (t : State) → one_unseen t ≤ 1
 one_most Unseen = omega arith
 one_most Open = omega arith
 one_most (Found v) = omega arith
-one_most (Ran v) = omega arith
+one_most (Ran v row) = omega arith
 
 pub unseen_most : (σ : Scratch) (n : ℕ) → unseen n σ ≤ n
 unfolding unseen

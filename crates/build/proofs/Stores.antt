@@ -10,9 +10,7 @@ use Rattle.entry.specs.Rows.{Fitting}
 use Rattle.store.specs.Rows.{added, count_of, entries_in, entry_at, room_of}
 use Rattle.build.specs.Build.{Stored, old_part}
 use Rattle.build.specs.Leaves.{added_all, kept_all, kept_one}
-use Rattle.store.proofs.Entries.{count_added, entries_added, length_added}
-use Rattle.store.proofs.Grows.{room_added}
-use Rattle.build.proofs.Added.{old_added, past_added}
+use Rattle.build.proofs.Added.{count_added, entries_added, length_added, old_added, past_added, room_added}
 
 -- a store whose row is long enough, with no more entries than room
 pub record Fine (rows : List ℕ) : Type 0 where
@@ -32,7 +30,7 @@ added_fine : (rows : List ℕ) (e : Entry) → Fitting e → Fine rows → count
 added_fine rows e fits fine free =
     let long : entry_at (count_of rows + 1) ≤ length rows = omega (arith, fine.long) in
     let count = count_added rows e fits long in
-    let room = room_added rows e (omega (arith, fine.long)) in
+    let room = room_added rows e fits long in
     record { long = omega (arith, fine.long, length_added rows e fits long); within = omega arith }
 
 more_all : (rows : List ℕ) (es : List Entry) → All Fitting es → Fine rows → count_of rows + length es ≤ room_of rows → More rows es (added_all rows es)
@@ -48,7 +46,7 @@ more_all rows [] fits fine enough = record {
 more_all rows (e ∷ es) fits fine enough =
     let long : entry_at (count_of rows + 1) ≤ length rows = omega (arith, fine.long) in
     let count = count_added rows e fits.0 long in
-    let room = room_added rows e (omega (arith, fine.long)) in
+    let room = room_added rows e fits.0 long in
     let rest = more_all (added rows e) es fits.1 (added_fine rows e fits.0 fine (omega arith)) (omega arith) in
     let n = count_of rows in
     let shorter : (xs : List ℕ) → take (1 + entry_size * n) (old_part (count_of (added rows e)) xs) ≡ old_part n xs
@@ -85,7 +83,7 @@ kept_added rows (e ∷ es) fits fine =
     (λ free.
     let long : entry_at (count_of rows + 1) ≤ length rows = omega (arith, fine.long) in
     let count = count_added rows e fits.0 long in
-    let room = room_added rows e (omega (arith, fine.long)) in
+    let room = room_added rows e fits.0 long in
     let less : room_of rows - count_of rows ≡ suc (room_of (added rows e) - count_of (added rows e)) = omega arith in
     ap (λ xs. kept_all xs es) (kept_free rows e fine free)
     ∙ kept_added (added rows e) es fits.1 (added_fine rows e fits.0 fine free)

@@ -17,7 +17,7 @@ use Rattle.theory.proofs.Along.{along_asks, runs_along}
 use Rattle.theory.proofs.Entries.{honest_asks, honest_runs}
 use Rattle.theory.proofs.Values.{makes_unique}
 use Rattle.build.specs.Made.{Evaluated, TestedSo}
-use Rattle.build.specs.Sound.{Looked, Ready, Settled, Sound, Went, nobody}
+use Rattle.build.specs.Sound.{Looked, Ready, Settled, Sound, Went}
 use Rattle.build.specs.declared.making.Tested.TheVariants as tested
 use Rattle.build.specs.declared.scratch.Scratch.{Scratch}
 use Rattle.build.proofs.Grows.{asked_looked, ended_join, ready_grown, went_join, went_none}
@@ -32,7 +32,7 @@ past row {i = i} is h = subst (λ xs. length (askings_in xs) ≤ i) is h
 
 -- the first i answers are right, and what they name is settled
 pub record Trying (d : List Item) (es : List Entry) (e : Entry) (σ : Scratch) (i : ℕ) (σ₁ : Scratch) : Type 0 where
-  pub went : Went d es nobody (Looked d (task_of e.script)) σ σ₁
+  pub went : Went d es (Looked d (task_of e.script)) σ σ₁
   pub right : (j : ℕ) → j < i → RightAt d e j
   pub settled : All (λ q. Settled d σ₁ q.item) (take i e.asked)
 

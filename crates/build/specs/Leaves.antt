@@ -8,7 +8,7 @@ use Rattle.store.specs.Faults.{add_fault}
 use Rattle.store.specs.Rows.{added}
 use Rattle.theory.specs.Items.{Item, item, made, written}
 use Rattle.theory.specs.Reference.{passing}
-use Rattle.build.specs.Scratch.{row_of, state_of}
+use Rattle.build.specs.Scratch.{state_of}
 use Rattle.build.specs.declared.scratch.Scratch.{Scratch}
 use Rattle.build.specs.declared.scratch.State.{State}
 use Rattle.build.specs.declared.scratch.State.TheVariants.{Found, Open, Ran, Unseen}
@@ -17,7 +17,7 @@ abbrev pub is_run : State → Bool
 is_run Unseen = false
 is_run Open = false
 is_run (Found v) = false
-is_run (Ran v) = true
+is_run (Ran v row) = true
 
 -- the items below n that were run, by rising number
 abbrev pub ran_list : Scratch → ℕ → List ℕ
@@ -28,15 +28,15 @@ abbrev pub script_of : Item → Script
 script_of (written v) = []
 script_of (made s) = s
 
-abbrev pub left_from : Script → List ℕ → State → Entry
-left_from s row Unseen = no_entry
-left_from s row Open = no_entry
-left_from s row (Found v) = no_entry
-left_from s row (Ran v) = record { script = s; asked = askings_in row; result = v }
+abbrev pub left_from : Script → State → Entry
+left_from s Unseen = no_entry
+left_from s Open = no_entry
+left_from s (Found v) = no_entry
+left_from s (Ran v row) = record { script = s; asked = askings_in row; result = v }
 
 -- the entries that the runs of these items left
 abbrev pub left_of : List Item → Scratch → ℕ → Entry
-left_of d σ j = left_from (script_of (item d j)) (row_of σ j) (state_of σ j)
+left_of d σ j = left_from (script_of (item d j)) (state_of σ j)
 
 abbrev pub left_all : List Item → Scratch → List ℕ → List Entry
 left_all d σ js = map (left_of d σ) js

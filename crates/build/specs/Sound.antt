@@ -1,5 +1,5 @@
 -- When what the scratch of a build says of the items is right. Assumes nothing: these are definitions.
-use Rattle.std.specs.Prelude.{◌≡◌, ℕ, ◌≤◌, ◌⊎◌, List, [], length, ◌≢◌}
+use Rattle.std.specs.Prelude.{◌≡◌, ℕ, ◌≤◌, ◌⊎◌, List, length, ◌≢◌}
 use Rattle.std.specs.List.{AllByRecursion as All}
 use Rattle.rows.specs.Rows.{chunks}
 use Rattle.script.specs.Rule.{Script, Task, Value, asks, done, task_of}
@@ -12,7 +12,7 @@ use Rattle.theory.specs.Build.{Saved}
 use Rattle.theory.specs.Clean.{Asks, Reached}
 use Rattle.theory.specs.Items.{Item, item, made, written}
 use Rattle.items.specs.Rows.{items_in}
-use Rattle.build.specs.Scratch.{row_of, state_of, unseen}
+use Rattle.build.specs.Scratch.{state_of, unseen}
 use Rattle.build.specs.declared.lent.Lent.{Lent}
 use Rattle.build.specs.declared.scratch.Scratch.{Scratch}
 use Rattle.build.specs.declared.scratch.State.TheVariants.{Found, Open, Ran, Unseen}
@@ -27,7 +27,7 @@ entries_of x = chunks entry_in entry_size x.count x.entries.now
 pub data Settled (d : List Item) (σ : Scratch) (j : ℕ) : Type 0 where
   by_hand : {v : Value} → item d j ≡ written v → Settled d σ j
   by_entry : {v : Value} → state_of σ j ≡ Found v → Settled d σ j
-  by_run : {v : Value} → state_of σ j ≡ Ran v → Settled d σ j
+  by_run : {v : Value} {row : List ℕ} → state_of σ j ≡ Ran v row → Settled d σ j
 
 -- a task came along these right answers, all of settled items, to that task
 pub record Walked (d : List Item) (σ : Scratch) (t : Task) (qs : List Asking) (u : Task) : Type 0 where
@@ -56,8 +56,7 @@ pub record Known (d : List Item) (σ : Scratch) (j : ℕ) (qs : List Asking) (v 
 pub record Sound (d : List Item) (es : List Entry) (σ : Scratch) : Type 0 where
   pub long : length d ≤ length σ.states
   pub found : (j : ℕ) (v : Value) → state_of σ j ≡ Found v → Saved d es j × ((qs : List Asking) × Known d σ j qs v)
-  pub ran : (j : ℕ) (v : Value) → state_of σ j ≡ Ran v → (Saved d es j → ⊥) × Known d σ j (askings_in (row_of σ j)) v
-  pub blank : (j : ℕ) → state_of σ j ≡ Unseen → askings_in (row_of σ j) ≡ []
+  pub ran : (j : ℕ) (v : Value) (row : List ℕ) → state_of σ j ≡ Ran v row → (Saved d es j → ⊥) × Known d σ j (askings_in row) v
 
 -- the entries are honest, the scratch is right, and there is depth for all items that were not seen
 pub record Ready (d : List Item) (es : List Entry) (σ : Scratch) (depth : ℕ) : Type 0 where
@@ -69,17 +68,9 @@ pub record Ready (d : List Item) (es : List Entry) (σ : Scratch) (depth : ℕ) 
 pub record Later (σ σ₁ : Scratch) : Type 0 where
   pub stays : (j : ℕ) → (state_of σ j ≢ Unseen) → state_of σ₁ j ≡ state_of σ j
 
--- whose rows are written: those of no item that was seen, or that of the item whose script is run
-abbrev pub nobody : ℕ → Type 0
-nobody j = ⊥
-
-abbrev pub only : ℕ → ℕ → Type 0
-only k j = j ≡ k
-
--- a sound scratch became another; the rows of what was seen stay, but for those that are written here; what was seen on the way comes from somewhere
-pub record Grown (d : List Item) (es : List Entry) (Own From : ℕ → Type 0) (σ σ₁ : Scratch) : Type 0 where
+-- a sound scratch became another; what was seen on the way comes from somewhere
+pub record Grown (d : List Item) (es : List Entry) (From : ℕ → Type 0) (σ σ₁ : Scratch) : Type 0 where
   pub later : Later σ σ₁
-  pub rows : (j : ℕ) → (state_of σ j ≢ Unseen) → (Own j → ⊥) → row_of σ₁ j ≡ row_of σ j
   pub sound : Sound d es σ₁
   pub new : (j : ℕ) → state_of σ j ≡ Unseen → (state_of σ₁ j ≡ Unseen) ⊎ From j
 
@@ -96,10 +87,10 @@ abbrev pub Stopped : List Item → Scratch → Scratch → Type 0
 Stopped d σ σ₁ = (j : ℕ) → state_of σ₁ j ≡ Open → (state_of σ j ≡ Open) ⊎ Waiting d σ₁ j
 
 -- a part of the build came to its end over a sound scratch, or a ring ended it
-pub record Went (d : List Item) (es : List Entry) (Own From : ℕ → Type 0) (σ σ₁ : Scratch) : Type 0 where
-  pub grown : Grown d es Own From σ σ₁
+pub record Went (d : List Item) (es : List Entry) (From : ℕ → Type 0) (σ σ₁ : Scratch) : Type 0 where
+  pub grown : Grown d es From σ σ₁
   pub closed : Closed σ σ₁
 
-pub record Ended (d : List Item) (es : List Entry) (Own From : ℕ → Type 0) (σ σ₁ : Scratch) : Type 0 where
-  pub grown : Grown d es Own From σ σ₁
+pub record Ended (d : List Item) (es : List Entry) (From : ℕ → Type 0) (σ σ₁ : Scratch) : Type 0 where
+  pub grown : Grown d es From σ σ₁
   pub stopped : Stopped d σ σ₁

@@ -8,9 +8,8 @@ ghost use Rattle.std.specs.Result.{result_err};
 use super::ending::{keep_runs, list_runs};
 use super::lent::Lent;
 use super::making::evaluate;
-use super::scratch::{Scratch, State};
-use entry::ASKINGS_SIZE;
-use items::{MAX_ITEMS, item_count};
+use super::scratch::Scratch;
+use items::item_count;
 use rows::{number_after, tail};
 use script::Refusal;
 use store::check_store;
@@ -72,11 +71,7 @@ fn build_checked(items: &[u64], rows: &mut [u64], ran: &mut [u64], k: u64, count
     requires all { count ≡ length (items_in items.now) }
     ensures { WentSo items.now rows.old ran.old k result rows.new ran.new }
 {
-    // Written out here: a function that gave it back would have it on the stack twice.
-    let mut scratch = Scratch {
-        states: [State::Unseen; MAX_ITEMS],
-        askings: [[0; ASKINGS_SIZE]; MAX_ITEMS],
-    };
+    let mut scratch = Scratch::new();
     let lent = Lent {
         items,
         entries: tail(rows, 2),

@@ -17,7 +17,7 @@ pub fn list_runs(scratch: &Scratch, count: usize, ran: &mut [u64])
 {
     let mut listed = 0;
     for item in 0..count {
-        if let State::Ran(_) = scratch.state(item as u64) {
+        if let State::Ran(_, _) = scratch.state(item as u64) {
             listed += 1;
             ran[listed] = item as u64;
         }
@@ -31,9 +31,8 @@ pub fn keep_runs(items: &[u64], scratch: &Scratch, count: usize, rows: &mut [u64
     ensures { rows.new ≡ kept_all rows.old (left_all (items_in items.now) scratch.now (ran_list scratch.now count)) }
 {
     for item in 0..count {
-        if let State::Ran(value) = scratch.state(item as u64) {
-            let askings = scratch.askings(item as u64);
-            let _ = add_entry(rows, script_row(items, item as u64), askings, value);
+        if let State::Ran(value, askings) = scratch.state(item as u64) {
+            let _ = add_entry(rows, script_row(items, item as u64), &askings, value);
         }
     }
 }

@@ -9,7 +9,8 @@ ghost use Rattle.script.specs.Rows.{script_in};
 
 use super::lent::{Lent, entry_row};
 use super::scratch::{Scratch, State};
-use entry::{Asking, RESULT_AT, asking_of};
+use super::trace::push_asking;
+use entry::{ASKINGS_SIZE, Asking, RESULT_AT, asking_of};
 use items::{Item, item_of};
 use machine::Registers;
 use rows::{number_after, tail};
@@ -34,6 +35,13 @@ pub enum Tested {
     Ring,
 }
 
+// What a run of a script gave, with its askings.
+#[derive(Clone, Copy)]
+pub struct Gave {
+    value: u64,
+    askings: [u64; ASKINGS_SIZE],
+}
+
 // The value of an item, or none if it is needed for itself. The depth is never used up before the items are.
 #[cycle(evaluate_make_recall_run_script_test_answers)]
 pub fn evaluate(lent: Lent, scratch: &mut Scratch, depth: usize, item: u64) -> Option<u64>
@@ -43,7 +51,7 @@ pub fn evaluate(lent: Lent, scratch: &mut Scratch, depth: usize, item: u64) -> O
         Item::Written(value) => Some(value),
         Item::Made(script) => match scratch.state(item) {
             State::Found(value) => Some(value),
-            State::Ran(value) => Some(value),
+            State::Ran(value, _) => Some(value),
             State::Open => None,
             State::Unseen => {
                 if depth == 0 {
@@ -69,11 +77,11 @@ fn make(lent: Lent, scratch: &mut Scratch, depth: usize, item: u64, script: &[u6
         }
         Recalled::Ring => None,
         Recalled::Nothing => {
-            let Some(value) = run_script(lent, scratch, depth, item, script) else {
+            let Some(gave) = run_script(lent, scratch, depth, script) else {
                 return None;
             };
-            scratch.mark(item, State::Ran(value));
-            Some(value)
+            scratch.mark(item, State::Ran(gave.value, gave.askings));
+            Some(gave.value)
         }
     }
 }
@@ -115,29 +123,23 @@ fn test_answers(lent: Lent, scratch: &mut Scratch, depth: usize, row: &[u64]) ->
     Tested::Agrees
 }
 
-// Runs the asker's script from one asking to the next: each is answered with what its item comes to at the desk, and kept in the asker's row of the scratch.
+// Runs a script from one asking to the next, each answered with what the item comes to at the desk.
 #[cycle(evaluate_make_recall_run_script_test_answers)]
-fn run_script(
-    lent: Lent,
-    scratch: &mut Scratch,
-    depth: usize,
-    asker: u64,
-    script: &[u64],
-) -> Option<u64>
-    requires { asker < max_items }
-    ensures { RanSo (items_of lent.entry) (entries_of lent.entry) (script_in script.now) depth asker scratch.old result scratch.new }
+fn run_script(lent: Lent, scratch: &mut Scratch, depth: usize, script: &[u64]) -> Option<Gave>
+    ensures { Ready (items_of lent.entry) (entries_of lent.entry) scratch.old depth → RanSo (items_of lent.entry) (entries_of lent.entry) (script_in script.now) scratch.old result scratch.new }
 {
     let mut registers = Registers::new();
+    let mut askings = [0; ASKINGS_SIZE];
     loop {
         match run(script, registers) {
             Step::Asks { item, waiting } => {
                 let Some(answer) = evaluate(lent, scratch, depth, item) else {
                     return None;
                 };
-                scratch.push(asker, Asking { item, answer });
+                push_asking(&mut askings, Asking { item, answer });
                 registers = waiting.answer(answer);
             }
-            Step::Gives(value) => return Some(value),
+            Step::Gives(value) => return Some(Gave { value, askings }),
         }
     }
 }

@@ -1,5 +1,6 @@
 // The clean build: every script that is needed is run, once, and nothing is remembered from build to build.
 #![tactic(auto)]
+
 ghost use Rattle.clean.specs.Builds.{Listed, list_fault, says};
 ghost use Rattle.items.specs.Rows.{items_in};
 ghost use Rattle.std.specs.Prelude.{◌≡◌, IfOk, MatchResult};

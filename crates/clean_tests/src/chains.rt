@@ -25,8 +25,7 @@ fn chains(rt: HostRuntime) -> Result<(), Fail> {
             0,
             CleanAnswer::Value(9),
             list.as_slice(),
-        )
-        .note(format_args!("{count} items"))?;
+        )?;
     }
     Ok(())
 }

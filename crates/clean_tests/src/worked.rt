@@ -41,7 +41,7 @@ type Expected = (u64, CleanAnswer, &'static [u64]);
 
 fn expect_all(rt: &impl Abort, items: &[u64], builds: &[Expected]) -> Result<(), Fail> {
     for (item, answer, list) in builds {
-        expect(rt, items, *item, *answer, *list).note(format_args!("item {item}"))?;
+        expect(rt, items, *item, *answer, *list)?;
     }
     Ok(())
 }

@@ -6,7 +6,7 @@ use Rattle.script.specs.declared.source.SourceLine.{SourceLine}
 use Rattle.house.specs.Deeds.{Deed, write, give, build, forget, bring}
 use Rattle.entry.specs.declared.asking.Asking.{Asking}
 use Rattle.house.specs.declared.size.HouseSize.{HouseSize}
-use Rattle.bytes.specs.Bytes.{low_first}
+use Rattle.byte_reading.specs.Bytes.{low_first}
 
 abbrev pub byte : List ℕ → ℕ → ℕ
 byte bs at = slice_index bs at

@@ -4,7 +4,7 @@ ghost use Rattle.dayfile.specs.Format.{carries_lines, deed_in, import_in, size_i
 ghost use Rattle.house.specs.Deeds.{deed_of};
 
 use super::pieces::{ASKING_BYTES, LINE_BYTES, read_pieces};
-use bytes::{byte_at, read_u64};
+use byte_reading::{byte_at, read_u64};
 use house::Command;
 use rows::tail;
 use std::alloc::{AllocError, Global};

@@ -1,5 +1,6 @@
 // Reads the bytes of a day's file.
 #![tactic(auto)]
+
 mod command;
 mod day;
 mod head;

@@ -3,7 +3,7 @@ ghost use Rattle.std.specs.Prelude.{◌≡◌, ℕ, ◌≤◌, List, IfOk};
 ghost use Rattle.dayfile.specs.Format.{asking_bytes, asking_in_bytes, line_bytes, line_in_bytes};
 ghost use Rattle.rows.specs.Rows.{chunks};
 
-use bytes::{byte_at, read_u32, read_u64};
+use byte_reading::{byte_at, read_u32, read_u64};
 use entry::Asking;
 use rows::tail;
 use script::SourceLine;

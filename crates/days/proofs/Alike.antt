@@ -24,12 +24,12 @@ pub desks_many : (z : HouseSize) (row : List ℕ) → length (desks_in z row) �
 desks_many z row = length_chunks (desk_at z) (desk_size z.items) z.desks row
 
 module _ (z : HouseSize) (desks store ran : List ℕ) where
-  pub store_alike : rows.store-fault store ≡ store_fault (house_of z desks store ran)
+  pub store_alike : rows.store_fault store ≡ store_fault (house_of z desks store ran)
   store_alike = ap
       (λ n. cond (ltb (length store) (entry_at (room_of store))) (Some (StoreTooShort (length store))) (cond (ltb (room_of store) n) (Some (StoreOverfull n)) None))
       (sym (kept_many store))
 
-  pub full_alike : rows.full-fault store ≡ full_fault (house_of z desks store ran)
+  pub full_alike : rows.full_fault store ≡ full_fault (house_of z desks store ran)
   full_alike = ap (λ n. cond (ltb n (room_of store)) None (Some (StoreFull (room_of store)))) (sym (kept_many store))
 
   module _ (shaped : Shaped z desks) (x : ℕ) where

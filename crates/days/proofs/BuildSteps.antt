@@ -7,14 +7,14 @@ use Rattle.script.specs.Allowed.{or_else}
 use Rattle.script.specs.declared.refusal.Refusal.{Refusal}
 use Rattle.script.specs.declared.refusal.Refusal.TheVariants.{ListTooShort, NoSuchDesk, NoSuchItem}
 use Rattle.entry.specs.Entry.{AllHonest, Entry}
-use Rattle.store.specs.Faults as in-store
+use Rattle.store.specs.Faults as in_store
 use Rattle.store.specs.Rows.{entries_in, room_of}
 use Rattle.store.proofs.Grows.{second_none}
 use Rattle.items.specs.Rows.{items_in}
 use Rattle.theory.specs.Build.{Built, In, Rising, here, more, none, one, there}
 use Rattle.theory.specs.Clean.{Out, ring, value}
 use Rattle.build.specs.Build.{BuiltSo, ByFault, Listed, WentSo, says}
-use Rattle.build.specs.Faults as at-desk
+use Rattle.build.specs.Faults as at_desk
 use Rattle.build.specs.Leaves.{told}
 use Rattle.house.specs.Deeds.{Deed, build}
 use Rattle.house.specs.Desks.{desk_in, desk_part, has_desk}
@@ -63,19 +63,19 @@ module _ (z : HouseSize) (desks rows ran : List ℕ) (shaped : Shaped z desks) (
     here_is : desk (house_of z desks rows ran) x ≡ desk_in z desks x
     here_is = desk_here z desks shaped x inside
 
-    build_alike : at-desk.build-fault (desk_part z desks x) rows ran k ≡ deed_fault (house_of z desks rows ran) (build x k)
+    build_alike : at_desk.build_fault (desk_part z desks x) rows ran k ≡ deed_fault (house_of z desks rows ran) (build x k)
     build_alike =
-        let place : at-desk.item-fault (length (desk_in z desks x)) k ≡ place_fault (house_of z desks rows ran) x k =
+        let place : at_desk.item_fault (length (desk_in z desks x)) k ≡ place_fault (house_of z desks rows ran) x k =
         ap (λ d. cond (ltb k (length d)) None (Some (NoSuchItem k))) (sym here_is)
         ∙ sym (cond-true _ _ _ (lt-ltb x (length (desks_in z desks)) (omega (arith, desks_many z desks)))) in
-        let list : at-desk.list-fault (length (desk_in z desks x)) ran ≡ list_fault (house_of z desks rows ran) x =
+        let list : at_desk.list_fault (length (desk_in z desks x)) ran ≡ list_fault (house_of z desks rows ran) x =
         ap (λ d. cond (ltb (length ran) (length d + 1)) (Some (ListTooShort (length ran))) None) (sym here_is) in
         (λ i. or_else (place i) (or_else (store_alike z desks rows ran i) (list i)))
 
-    went : {r : perform.Told} {a : Answer} {rows₁ ran₁ : List ℕ} → AllHonest (entries_in rows) → at-desk.build-fault (desk_part z desks x) rows ran k ≡ None → r ≡ told_of a → WentSo (desk_part z desks x) rows ran k a rows₁ ran₁ → Goes (house_of z desks rows ran) (build x k) (told_in r ran₁) (house_of z desks rows₁ ran₁)
+    went : {r : perform.Told} {a : Answer} {rows₁ ran₁ : List ℕ} → AllHonest (entries_in rows) → at_desk.build_fault (desk_part z desks x) rows ran k ≡ None → r ≡ told_of a → WentSo (desk_part z desks x) rows ran k a rows₁ ran₁ → Goes (house_of z desks rows ran) (build x k) (told_in r ran₁) (house_of z desks rows₁ ran₁)
     went {r} {a} {rows₁} {ran₁} honest fine tells_it w =
         let fits : length (desk_in z desks x) < length ran = let n = length (desk_in z desks x) in
-        let last = second_none (in-store.store-fault rows) (at-desk.list-fault n ran) (second_none (at-desk.item-fault n k) _ fine) in grind (arith, nat_tests) in
+        let last = second_none (in_store.store_fault rows) (at_desk.list_fault n ran) (second_none (at_desk.item_fault n k) _ fine) in grind (arith, nat_tests) in
         let short = rising_short (length (desk_in z desks x)) w.list w.listed.rising w.listed.below in
         let same : length ran₁ ≡ length ran = ap length w.listed.row ∙ length_told ran w.list (omega arith) in
         let says_it : told_in r ran₁ ≡ built w.out w.list =
@@ -84,7 +84,7 @@ module _ (z : HouseSize) (desks rows ran : List ℕ) (shaped : Shaped z desks) (
         subst (λ t. Goes (house_of z desks rows ran) (build x k) t (house_of z desks rows₁ ran₁)) (sym says_it)
         (subst (Goes (house_of z desks rows ran) (build x k) (built w.out w.list)) (restocked z desks rows ran shaped rows₁ ran₁ _ refl w.stored.long w.stored.room same) goes)
 
-    by_fault : {r : perform.Told} (a : Answer) (rows₁ ran₁ : List ℕ) (fault : Option Refusal) → at-desk.build-fault (desk_part z desks x) rows ran k ≡ fault → AllHonest (entries_in rows) → r ≡ told_of a → ByFault fault (desk_part z desks x) rows ran k a rows₁ ran₁ → Goes (house_of z desks rows ran) (build x k) (told_in r ran₁) (house_of z desks rows₁ ran₁)
+    by_fault : {r : perform.Told} (a : Answer) (rows₁ ran₁ : List ℕ) (fault : Option Refusal) → at_desk.build_fault (desk_part z desks x) rows ran k ≡ fault → AllHonest (entries_in rows) → r ≡ told_of a → ByFault fault (desk_part z desks x) rows ran k a rows₁ ran₁ → Goes (house_of z desks rows ran) (build x k) (told_in r ran₁) (house_of z desks rows₁ ran₁)
     by_fault a rows₁ ran₁ None e honest tells_it w = went honest e tells_it w
     by_fault a rows₁ ran₁ (Some f) e honest tells_it w = rw (tells_it, w.0, w.1, w.2) (refuses (sym build_alike ∙ e))
 

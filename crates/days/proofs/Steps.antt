@@ -15,7 +15,7 @@ use Rattle.entry.specs.Rows.{Fitting, entry_of}
 use Rattle.entry.specs.declared.asking.Asking.{Asking}
 use Rattle.store.specs.Faults.{add_fault, remove_fault}
 use Rattle.store.specs.Rows.{added, entries_in, removed, room_of}
-use Rattle.store.proofs.Grows.{grown, second_none, shrunk}
+use Rattle.store.proofs.Grows.{grown, grown_long, second_none, shrunk, shrunk_long}
 use Rattle.items.specs.Rows.{FittingItem, rewritten}
 use Rattle.theory.specs.Items.{Item, made, written}
 use Rattle.house.specs.Deeds.{Deed, bring, build, forget, give, write}
@@ -106,7 +106,7 @@ module _ (z : HouseSize) (desks rows ran : List ℕ) (shaped : Shaped z desks) w
       stored (forget i) (removed rows i) (remove_fault rows i) (sym alike)
       (λ none.
       let s = shrunk rows i none in
-      subst (Goes (house_of z desks rows ran) (forget i) fine) (restocked (removed rows i) ran _ s.entries s.long s.room refl) (forgets (sym alike ∙ none))) c
+      subst (Goes (house_of z desks rows ran) (forget i) fine) (restocked (removed rows i) ran _ s.entries (shrunk_long rows i none) s.room refl) (forgets (sym alike ∙ none))) c
 
   pub bring_goes : (ls : List SourceLine) (qs : List Asking) (v : Value) {r : perform.Told} {desks₁ rows₁ ran₁ : List ℕ} → PerformedSo z (bring ls qs v) desks rows ran r desks₁ rows₁ ran₁ → Stepped z (bring ls qs v) desks rows ran r desks₁ rows₁ ran₁
   bring_goes ls qs v c =
@@ -119,4 +119,4 @@ module _ (z : HouseSize) (desks rows ran : List ℕ) (shaped : Shaped z desks) w
       (λ none.
       let fits = let_in rows ls qs v none in
       let s = grown rows e fits.0 fits.1 in
-      subst (Goes (house_of z desks rows ran) (bring ls qs v) fine) (restocked (added rows e) ran _ s.entries s.long s.room refl) (brings (sym alike ∙ none))) c
+      subst (Goes (house_of z desks rows ran) (bring ls qs v) fine) (restocked (added rows e) ran _ s.entries (grown_long rows e fits.0 fits.1) s.room refl) (brings (sym alike ∙ none))) c

@@ -1,5 +1,6 @@
 // Days of commands: performing a list of them, and what a house promises over every one.
 #![tactic(auto)]
+
 mod day;
 mod laws;
 mod listed;

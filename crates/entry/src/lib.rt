@@ -1,5 +1,6 @@
 // Entries: what one run of a script leaves, in its row of numbers, and whether it replays.
 #![tactic(auto)]
+
 mod asking;
 mod honesty;
 mod layout;

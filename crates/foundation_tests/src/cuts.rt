@@ -1,35 +1,33 @@
-// Reading stops at the first command that is not whole or has no known kind, and says at which byte.
-use super::cases::check_case;
-use dayfile::read_day;
-use std::alloc::Global;
+// A file that is cut anywhere is read up to its last whole command.
+use super::files::joined;
+use dayfile::{DayError, read_day};
 use std::test::Fail;
 
-// How many commands are read, and the number and the place of why reading stopped; both are 0 if it went to the end.
-fn read_numbers(heap: Global, bytes: &[u8]) -> Result<(usize, u64, u64), Fail> {
-    let day = read_day(heap, bytes)?;
-    let count = day.commands.len();
-    match day.stopped {
-        None => Ok((count, 0, 0)),
-        Some(refusal) => Ok((count, refusal.number(), refusal.place())),
-    }
-}
-
-// A house of 2 desks of 3 items with room for 4 entries, and a command of each kind.
-static FILE: [u8; 85] = [
-    2, 3, 4, // the head
-    0, 0, 1, 2, 1, 0, 0, 0, 0, 0, 0, // writes 258 into item 1 of desk 0
-    1, 1, 2, 2, // gives item 2 of desk 1 a script of two lines:
-    0, 3, 0, 0, 0, 1, 0, 0, 0, 0, 0, 0, 0, // asks for 1,
-    5, 3, 0, 0, 0, 0, 0, 0, 0, 0, 0, 0, 0, // and gives that
-    2, 1, 2, // builds item 2 of desk 1
-    3, 0, // throws out entry 0
-    4, 1, 0, 0, 0, 0, 0, 7, 0, 0, 0, 0, 0, 0, 0, // carries in an entry of one line
-    1, 7, 0, 0, 0, 9, 0, 0, 0, 0, 0, 0, 0, // and one asking, for item 7, answered with 9;
-    0, 0, 0, 0, 0, 0, 0, 0, // the result is 0
+// A house and a command of each kind.
+const FILE: [&[u8]; 13] = [
+    // 2 desks of 3 items, room for 4 entries.
+    &[2, 3, 4],
+    // Writes 258 into item 1 of desk 0.
+    &[0, 0, 1],
+    &[2, 1, 0, 0, 0, 0, 0, 0],
+    // Gives item 2 of desk 1 a script of two lines: asks for 1, and gives that.
+    &[1, 1, 2, 2],
+    &[0, 3, 0, 0, 0, 1, 0, 0, 0, 0, 0, 0, 0],
+    &[5, 3, 0, 0, 0, 0, 0, 0, 0, 0, 0, 0, 0],
+    // Builds item 2 of desk 1.
+    &[2, 1, 2],
+    // Throws out entry 0.
+    &[3, 0],
+    // Carries in an entry of one line and one asking, for item 7, answered with 9; the result is 0.
+    &[4, 1],
+    &[0, 0, 0, 0, 0, 7, 0, 0, 0, 0, 0, 0, 0],
+    &[1],
+    &[7, 0, 0, 0, 9, 0, 0, 0, 0, 0, 0, 0],
+    &[0, 0, 0, 0, 0, 0, 0, 0],
 ];
 
 // Where the commands begin, and where the file ends.
-static STARTS: [usize; 6] = [3, 14, 44, 47, 49, 85];
+const STARTS: [usize; 6] = [3, 14, 44, 47, 49, 85];
 
 // How many commands are whole in so many bytes, and where the last of them ends.
 fn whole(length: usize) -> (usize, usize) {
@@ -42,33 +40,40 @@ fn whole(length: usize) -> (usize, usize) {
     found
 }
 
-fn expected(length: usize) -> (usize, u64, u64) {
-    let (count, end) = whole(length);
-    if length == end {
-        (count, 0, 0)
-    } else {
-        (count, 1, end as u64)
-    }
-}
-
 #[test]
-fn a_file_that_is_cut_anywhere(rt: HostRuntime) -> Result<(), Fail> {
-    for length in 3..86 {
-        let seen = read_numbers(rt.alloc(), &FILE[..length])?;
-        check_case(&rt, length, seen, expected(length));
+fn cut_in_the_head(rt: HostRuntime) -> Result<(), Fail> {
+    let file = joined(rt.alloc(), &FILE)?;
+    let bytes = file.as_slice();
+    assert!(rt; bytes.len() == 85);
+    for length in 0..3 {
+        let refused = match read_day(rt.alloc(), &bytes[..length]) {
+            Ok(_) => false,
+            Err(error) => matches!(error, DayError::HouseRefused),
+        };
+        assert!(rt; refused, "{length} bytes");
     }
     Ok(())
 }
 
-// Kinds that no command has.
-static KINDS: [u8; 3] = [5, 6, 255];
-
-// What comes behind such a command is not read.
 #[test]
-fn an_unknown_kind_ends_the_reading(rt: HostRuntime) -> Result<(), Fail> {
-    for kind in KINDS.iter() {
-        let seen = read_numbers(rt.alloc(), &[1, 1, 0, 2, 0, 0, *kind, 0, 0, 2, 0, 0])?;
-        check_case(&rt, usize::from(*kind), seen, (1, 1, 6));
+fn cut_behind_the_head(rt: HostRuntime) -> Result<(), Fail> {
+    let file = joined(rt.alloc(), &FILE)?;
+    let bytes = file.as_slice();
+    assert!(rt; bytes.len() == 85);
+    for length in 3..86 {
+        let (count, end) = whole(length);
+        let day = read_day(rt.alloc(), &bytes[..length])?;
+        assert_eq!(rt; day.commands.len(), count, "{length} bytes");
+        let stopped = match day.stopped {
+            None => None,
+            Some(refusal) => Some((refusal.number(), refusal.place())),
+        };
+        let expected = if length == end {
+            None
+        } else {
+            Some((1, end as u64))
+        };
+        assert_eq!(rt; stopped, expected, "{length} bytes");
     }
     Ok(())
 }

@@ -1,9 +1,11 @@
-// Tests of scripts, the runner and the reader of a day, on examples whose answers come from the rules.
+// Tests of scripts, the runner, commands and the reader of a day, on examples whose answers come from the rules.
 #![tactic(auto)]
 #[cfg(test)]
-mod cases;
+mod commands;
 #[cfg(test)]
 mod cuts;
+#[cfg(test)]
+mod files;
 #[cfg(test)]
 mod head;
 #[cfg(test)]

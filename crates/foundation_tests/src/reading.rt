@@ -1,173 +1,123 @@
 // What the commands of a file say, byte by byte.
-use super::cases::check_case;
+use super::files::joined;
 use dayfile::read_day;
-use entry::Asking;
 use house::Command;
 use script::SourceLine;
-use std::alloc::Global;
-use std::process::Abort;
 use std::test::Fail;
 
-// The last command of a file, which has so many.
-fn last_command(
-    rt: &impl Abort,
-    heap: Global,
-    bytes: &[u8],
-    count: usize,
-) -> Result<Command, Fail> {
-    let mut day = read_day(heap, bytes)?;
-    assert_eq!(rt; day.commands.len(), count);
-    match day.commands.pop() {
-        Some(command) => Ok(command),
-        None => Err(Fail::new("no command")),
-    }
-}
-
-// The kind of a command that carries no lines, and its numbers.
-fn command_numbers(command: &Command) -> (u64, u64, u64, u64) {
-    match command {
-        Command::Write { desk, item, value } => (0, *desk, *item, *value),
-        Command::Build { desk, item } => (2, *desk, *item, 0),
-        Command::Remove { entry } => (3, *entry, 0, 0),
-        _ => (9, 0, 0, 0),
-    }
-}
-
-// Files, how many commands they have, and the last of these; a value is read low byte first.
-static FILES: [(&[u8], usize, (u64, u64, u64, u64)); 3] = [
-    (
-        &[2, 3, 4, 0, 1, 2, 1, 2, 3, 4, 5, 6, 7, 8],
-        1,
-        (0, 1, 2, 0x0807060504030201),
-    ),
-    (&[2, 3, 4, 2, 1, 2], 1, (2, 1, 2, 0)),
-    (&[2, 3, 4, 2, 1, 2, 3, 9], 2, (3, 9, 0, 0)),
-];
-
-fn last_numbers(
-    rt: &impl Abort,
-    heap: Global,
-    bytes: &[u8],
-    count: usize,
-) -> Result<(u64, u64, u64, u64), Fail> {
-    let command = last_command(rt, heap, bytes, count)?;
-    Ok(command_numbers(&command))
-}
-
 #[test]
-fn writes_builds_and_removals(rt: HostRuntime) -> Result<(), Fail> {
-    for (index, (file, count, expected)) in FILES.iter().enumerate() {
-        check_case(
-            &rt,
-            index,
-            last_numbers(&rt, rt.alloc(), *file, *count)?,
-            *expected,
-        );
-    }
+fn a_write_is_read_low_byte_first(rt: HostRuntime) -> Result<(), Fail> {
+    let day = read_day(rt.alloc(), &[2, 3, 4, 0, 1, 2, 1, 2, 3, 4, 5, 6, 7, 8])?;
+    assert!(rt; day.commands.len() == 1);
+    let Command::Write { desk, item, value } = &day.commands[0] else {
+        return Err(Fail::new("no write"));
+    };
+    assert_eq!(rt; (*desk, *item), (1, 2));
+    assert_eq!(rt; *value, 0x0807060504030201);
     Ok(())
 }
 
-// A file that gives an item one line, of each kind and with no number 0, and the four numbers that the line is kept as: what its kind does not use is dropped.
-static LINES: [([u8; 20], (u64, u64, u64, u64)); 6] = [
+#[test]
+fn a_build_and_a_throwing_out(rt: HostRuntime) -> Result<(), Fail> {
+    let day = read_day(rt.alloc(), &[2, 3, 4, 2, 1, 2, 3, 9])?;
+    assert!(rt; day.commands.len() == 2);
+    assert!(rt; matches!(&day.commands[0], Command::Build { desk: 1, item: 2 }));
+    assert!(rt; matches!(&day.commands[1], Command::Remove { entry: 9 }));
+    Ok(())
+}
+
+// Bytes of a line of each kind with no number 0, and the four numbers that it is kept as: what its kind does not use is dropped.
+const LINES: [([u8; 13], [u64; 4]); 6] = [
     (
-        [
-            1, 1, 0, 1, 0, 0, 1, 0, 1, 2, 3, 4, 5, 6, 7, 8, 9, 10, 11, 12,
-        ],
-        (0, 0x04030201, 0x08070605, 0),
+        [0, 1, 2, 3, 4, 5, 6, 7, 8, 9, 10, 11, 12],
+        [0, 0x04030201, 0x08070605, 0],
     ),
     (
-        [
-            1, 1, 0, 1, 0, 0, 1, 1, 1, 2, 3, 4, 5, 6, 7, 8, 9, 10, 11, 12,
-        ],
-        (1, 0x04030201, 0x08070605, 0),
+        [1, 1, 2, 3, 4, 5, 6, 7, 8, 9, 10, 11, 12],
+        [1, 0x04030201, 0x08070605, 0],
     ),
     (
-        [
-            1, 1, 0, 1, 0, 0, 1, 2, 1, 2, 3, 4, 5, 6, 7, 8, 9, 10, 11, 12,
-        ],
-        (2, 0x04030201, 0x08070605, 0),
+        [2, 1, 2, 3, 4, 5, 6, 7, 8, 9, 10, 11, 12],
+        [2, 0x04030201, 0x08070605, 0],
     ),
     (
-        [
-            1, 1, 0, 1, 0, 0, 1, 3, 1, 2, 3, 4, 5, 6, 7, 8, 9, 10, 11, 12,
-        ],
-        (3, 0x04030201, 0x08070605, 0x0c0b0a09),
+        [3, 1, 2, 3, 4, 5, 6, 7, 8, 9, 10, 11, 12],
+        [3, 0x04030201, 0x08070605, 0x0c0b0a09],
     ),
     (
-        [
-            1, 1, 0, 1, 0, 0, 1, 4, 1, 2, 3, 4, 5, 6, 7, 8, 9, 10, 11, 12,
-        ],
-        (4, 0x04030201, 0x08070605, 0x0c0b0a09),
+        [4, 1, 2, 3, 4, 5, 6, 7, 8, 9, 10, 11, 12],
+        [4, 0x04030201, 0x08070605, 0x0c0b0a09],
     ),
     (
-        [
-            1, 1, 0, 1, 0, 0, 1, 5, 1, 2, 3, 4, 5, 6, 7, 8, 9, 10, 11, 12,
-        ],
-        (5, 0x04030201, 0, 0),
+        [5, 1, 2, 3, 4, 5, 6, 7, 8, 9, 10, 11, 12],
+        [5, 0x04030201, 0, 0],
     ),
 ];
 
-// The four numbers of a script's only line.
-fn only_line(rt: &impl Abort, lines: &[SourceLine]) -> Result<(u64, u64, u64, u64), Fail> {
-    assert!(rt; lines.len() == 1);
-    let SourceLine::Known(line) = lines[0] else {
-        return Err(Fail::new("unknown kind"));
-    };
-    let [kind, first, second, third] = line.numbers();
-    Ok((kind, first, second, third))
-}
-
-fn line_in(rt: &impl Abort, heap: Global, file: &[u8]) -> Result<(u64, u64, u64, u64), Fail> {
-    match &last_command(rt, heap, file, 1)? {
-        Command::Script { lines, .. } => only_line(rt, lines.as_slice()),
-        _ => Err(Fail::new("no script")),
-    }
-}
-
 #[test]
 fn lines_of_a_script(rt: HostRuntime) -> Result<(), Fail> {
-    for (index, (file, numbers)) in LINES.iter().enumerate() {
-        check_case(&rt, index, line_in(&rt, rt.alloc(), file)?, *numbers);
+    for (index, (bytes, numbers)) in LINES.iter().enumerate() {
+        let mut file = Vec::from_slice(rt.alloc(), &[1, 1, 0, 1, 0, 0, 1])?;
+        file.extend_from_slice(bytes)?;
+        let day = read_day(rt.alloc(), file.as_slice())?;
+        assert!(rt; day.commands.len() == 1);
+        let Command::Script { lines, .. } = &day.commands[0] else {
+            return Err(Fail::new("no script"));
+        };
+        assert!(rt; lines.len() == 1);
+        let SourceLine::Known(line) = lines[0] else {
+            return Err(Fail::new("unknown kind"));
+        };
+        assert_eq!(rt; line.numbers(), *numbers, "line {index}");
     }
     Ok(())
 }
 
 // Carries in an entry of no lines and two askings.
-static ENTRY: [u8; 38] = [
-    1, 1, 0, 4, 0, 2, // the head, the kind and the counts
-    1, 2, 3, 4, 1, 0, 0, 0, 0, 0, 0, 128, // the first asking
-    5, 0, 0, 0, 6, 0, 0, 0, 0, 0, 0, 0, // the second
-    9, 0, 0, 0, 0, 0, 0, 1, // the result
+const ENTRY: [&[u8]; 5] = [
+    &[1, 1, 0],
+    &[4, 0, 2],
+    &[1, 2, 3, 4, 1, 0, 0, 0, 0, 0, 0, 128],
+    &[5, 0, 0, 0, 6, 0, 0, 0, 0, 0, 0, 0],
+    &[9, 0, 0, 0, 0, 0, 0, 1],
 ];
-
-fn check_askings(rt: &impl Abort, askings: &[Asking]) -> Result<(), Fail> {
-    assert!(rt; askings.len() == 2);
-    let (first, second) = (askings[0], askings[1]);
-    check_case(
-        rt,
-        0,
-        (first.item, first.answer),
-        (0x04030201, 0x8000000000000001),
-    );
-    check_case(rt, 1, (second.item, second.answer), (5, 6));
-    Ok(())
-}
-
-fn check_entry(rt: &impl Abort, command: &Command) -> Result<(), Fail> {
-    match command {
-        Command::Import {
-            lines,
-            askings,
-            result,
-        } => {
-            assert!(rt; lines.len() == 0 && *result == 0x0100000000000009);
-            check_askings(rt, askings.as_slice())
-        }
-        _ => Err(Fail::new("no entry")),
-    }
-}
 
 #[test]
 fn an_entry(rt: HostRuntime) -> Result<(), Fail> {
-    check_entry(&rt, &last_command(&rt, rt.alloc(), &ENTRY, 1)?)
+    let file = joined(rt.alloc(), &ENTRY)?;
+    let day = read_day(rt.alloc(), file.as_slice())?;
+    assert!(rt; day.commands.len() == 1);
+    let Command::Import {
+        lines,
+        askings,
+        result,
+    } = &day.commands[0]
+    else {
+        return Err(Fail::new("no entry"));
+    };
+    assert_eq!(rt; lines.len(), 0);
+    assert!(rt; askings.len() == 2);
+    assert_eq!(rt;
+        (askings[0].item, askings[0].answer),
+        (0x04030201, 0x8000000000000001)
+    );
+    assert_eq!(rt; (askings[1].item, askings[1].answer), (5, 6));
+    assert_eq!(rt; *result, 0x0100000000000009);
+    Ok(())
+}
+
+// Kinds that no command has. What comes behind such a command is not read.
+const KINDS: [u8; 3] = [5, 6, 255];
+
+#[test]
+fn an_unknown_kind_ends_the_reading(rt: HostRuntime) -> Result<(), Fail> {
+    for kind in KINDS {
+        let day = read_day(rt.alloc(), &[1, 1, 0, 2, 0, 0, kind, 0, 0, 2, 0, 0])?;
+        assert_eq!(rt; day.commands.len(), 1);
+        let Some(refusal) = day.stopped else {
+            return Err(Fail::new("read to the end"));
+        };
+        assert_eq!(rt; (refusal.number(), refusal.place()), (1, 6), "kind {kind}");
+    }
+    Ok(())
 }

@@ -1,71 +1,55 @@
 // What scripts ask for and give. Lines stand as in a row: a kind and three numbers.
-use super::cases::check_case;
-use machine::Registers;
-use rows::put_all;
 use runner::{Step, run};
-use std::process::Abort;
+use machine::Registers;
 
 const MOST: u64 = u64::MAX;
 
 // Where a run stops: a step without the registers that it waits with.
-#[derive(Clone, Copy)]
+#[derive(Clone, Copy, PartialEq, Debug)]
 enum Stop {
     Asks(u64),
     Gives(u64),
 }
 
-impl Stop {
-    fn of(step: Step) -> Stop {
-        match step {
-            Step::Asks { item, .. } => Stop::Asks(item),
-            Step::Gives(value) => Stop::Gives(value),
-        }
-    }
-
-    // Which it is, and the item or the value.
-    fn numbers(self) -> (u64, u64) {
-        match self {
-            Stop::Asks(item) => (0, item),
-            Stop::Gives(value) => (1, value),
-        }
+fn stop_of(step: Step) -> Stop {
+    match step {
+        Step::Asks { item, .. } => Stop::Asks(item),
+        Step::Gives(value) => Stop::Gives(value),
     }
 }
 
 // Where a script stops first.
 fn first_stop(script: &[u64]) -> Stop {
-    Stop::of(run(script, Registers::new()))
+    stop_of(run(script, Registers::new()))
 }
 
 // Where a script stops next, after an answer to what it asks for first.
 fn next_stop(script: &[u64], answer: u64) -> Stop {
     match run(script, Registers::new()) {
-        Step::Asks { waiting, .. } => Stop::of(run(script, waiting.answer(answer))),
+        Step::Asks { waiting, .. } => stop_of(run(script, waiting.answer(answer))),
         Step::Gives(value) => Stop::Gives(value),
     }
-}
-
-fn check_stop(rt: &impl Abort, index: usize, seen: Stop, expected: Stop) {
-    check_case(rt, index, seen.numbers(), expected.numbers());
 }
 
 // The row of a script: the count of its lines and the lines, of which there are at most 32.
 fn row_of(lines: &[[u64; 4]]) -> [u64; 129] {
     let mut row = [0; 129];
-    put_lines(&mut row, lines);
+    row[0] = lines.len() as u64;
+    let mut at = 1;
+    for [kind, first, second, third] in lines {
+        if at <= 125 {
+            row[at] = *kind;
+            row[at + 1] = *first;
+            row[at + 2] = *second;
+            row[at + 3] = *third;
+            at += 4;
+        }
+    }
     row
 }
 
-fn put_lines(row: &mut [u64], lines: &[[u64; 4]]) {
-    put_all(row, 0, &[lines.len() as u64]);
-    let mut at: usize = 1;
-    for line in lines {
-        put_all(row, at, line);
-        at = at.saturating_add(4);
-    }
-}
-
 // Scripts that ask for nothing, and what they give.
-static GIVING: [(&[[u64; 4]], u64); 23] = [
+const GIVING: [(&[[u64; 4]], u64); 23] = [
     // No lines.
     (&[], 0),
     // Runs out of lines.
@@ -135,17 +119,16 @@ static GIVING: [(&[[u64; 4]], u64); 23] = [
 #[test]
 fn scripts_that_ask_for_nothing(rt: HostRuntime) {
     for (index, (lines, result)) in GIVING.iter().enumerate() {
-        check_stop(
-            &rt,
-            index,
+        assert_eq!(rt;
             first_stop(&row_of(*lines)),
             Stop::Gives(*result),
+            "script {index}"
         );
     }
 }
 
 // Scripts that ask, the item that each asks for first, an answer, and what comes of it.
-static ASKING: [(&[[u64; 4]], u64, u64, Stop); 13] = [
+const ASKING: [(&[[u64; 4]], u64, u64, Stop); 13] = [
     (&[[0, 3, 900, 0], [5, 3, 0, 0]], 900, 41, Stop::Gives(41)),
     (&[[0, 3, 900, 0], [5, 2, 0, 0]], 900, 41, Stop::Gives(0)),
     (
@@ -223,42 +206,48 @@ static ASKING: [(&[[u64; 4]], u64, u64, Stop); 13] = [
 fn scripts_that_ask(rt: HostRuntime) {
     for (index, (lines, item, answer, next)) in ASKING.iter().enumerate() {
         let script = row_of(*lines);
-        check_stop(&rt, index, first_stop(&script), Stop::Asks(*item));
-        check_stop(&rt, index, next_stop(&script, *answer), *next);
+        assert_eq!(rt;
+            first_stop(&script),
+            Stop::Asks(*item),
+            "first stop of script {index}"
+        );
+        assert_eq!(rt;
+            next_stop(&script, *answer),
+            *next,
+            "next stop of script {index}"
+        );
     }
 }
 
-// A script of 32 lines with this count in front of them: its second line leaves out so many, its last gives 7, the others end it with 0.
-fn leaping(count: u64, leap: u64) -> [u64; 129] {
-    let mut lines = [[5, 1, 0, 0]; 32];
-    lines[0] = [2, 0, 7, 0];
-    lines[1] = [4, 1, 1, leap];
-    lines[31] = [5, 0, 0, 0];
-    let mut script = row_of(&lines);
-    script[0] = count;
-    script
-}
-
-// Counts of lines, how many are left out, and what is given; a count above 32 is read as 32.
-static LEAPS: [(u64, u64, u64); 7] = [
-    (32, 28, 0),
-    (32, 29, 7),
-    (32, 30, 0),
-    (32, 32, 0),
-    (31, 29, 0),
-    (33, 29, 7),
-    (MOST, 29, 7),
-];
+// Lines that may be left out, and what a script of 32 lines then gives: its second line leaves them out, its last gives 7, the others end it with 0.
+const LEAPS: [(u64, u64); 4] = [(28, 0), (29, 7), (30, 0), (32, 0)];
 
 #[test]
 fn leaps_in_a_script_of_32_lines(rt: HostRuntime) {
-    for (index, (count, leap, result)) in LEAPS.iter().enumerate() {
-        check_stop(
-            &rt,
-            index,
-            first_stop(&leaping(*count, *leap)),
-            Stop::Gives(*result),
+    for (leap, result) in LEAPS {
+        let mut lines = [[5, 1, 0, 0]; 32];
+        lines[0] = [2, 0, 7, 0];
+        lines[1] = [4, 1, 1, leap];
+        lines[31] = [5, 0, 0, 0];
+        assert_eq!(rt;
+            first_stop(&row_of(&lines)),
+            Stop::Gives(result),
+            "{leap} lines"
         );
+    }
+}
+
+// Counts of lines in front of 32 lines of which the last gives 7; a count above 32 is read as 32.
+const COUNTS: [(u64, u64); 4] = [(31, 0), (32, 7), (33, 7), (MOST, 7)];
+
+#[test]
+fn counts_of_lines(rt: HostRuntime) {
+    for (count, result) in COUNTS {
+        let mut lines = [[2, 0, 7, 0]; 32];
+        lines[31] = [5, 0, 0, 0];
+        let mut script = row_of(&lines);
+        script[0] = count;
+        assert_eq!(rt; first_stop(&script), Stop::Gives(result), "count {count}");
     }
 }
 
@@ -267,9 +256,12 @@ fn leaps_in_a_script_of_32_lines(rt: HostRuntime) {
 fn a_33rd_line_is_not_run(rt: HostRuntime) {
     // Lines by which register 2 becomes 2.
     let mut script = [2; 133];
-    // The count, and the first line: register 0 becomes 7.
-    put_all(&mut script, 0, &[33, 2, 0, 7]);
+    script[0] = 33;
+    // The first line: register 0 becomes 7.
+    script[2] = 0;
+    script[3] = 7;
     // The 33rd: gives register 0.
-    put_all(&mut script, 129, &[5, 0]);
-    check_stop(&rt, 0, first_stop(&script), Stop::Gives(0));
+    script[129] = 5;
+    script[130] = 0;
+    assert_eq!(rt; first_stop(&script), Stop::Gives(0));
 }

@@ -1,5 +1,6 @@
 // The house: its desks, and the commands that are given at them.
 #![tactic(auto)]
+
 mod check;
 mod command;
 mod desk_commands;
@@ -11,4 +12,4 @@ mod size;
 pub use command::Command;
 pub use desks::new_desks;
 pub use perform::Told;
-pub use size::HouseSize;
+pub use size::{HouseSize, Place};

@@ -1,4 +1,9 @@
-// How large a house is.
+// How large a house is, and which desks and items are in it.
+ghost use Rattle.house.specs.Faults.{place_fault};
+ghost use Rattle.std.specs.Prelude.{◌≡◌, IfOk, if◌then◌else◌, Some, None, nat_lt};
+ghost use Rattle.std.specs.Result.{result_err};
+
+use script::Refusal;
 
 #[derive(Clone, Copy)]
 pub struct HouseSize {
@@ -7,4 +12,33 @@ pub struct HouseSize {
     pub items: u64,
     // Entries that the store has room for.
     pub room: u64,
+}
+
+// An item at a desk, both of which are there.
+#[derive(Clone, Copy)]
+pub struct Place {
+    pub desk: u64,
+    pub item: u64,
+}
+
+impl HouseSize {
+    // Refuses a desk that is not there, and then an item that the desk does not have.
+    pub fn find(self, desk: u64, item: u64) -> Result<Place, Refusal>
+        ensures fault { result_err result ≡ place_fault self desk item }
+        ensures value { IfOk result (λ place. (place.desk ≡ desk) × (place.item ≡ item)) }
+    {
+        let Some(desk) = below(desk, self.desks) else {
+            return Err(Refusal::NoSuchDesk { desk });
+        };
+        let Some(item) = below(item, self.items) else {
+            return Err(Refusal::NoSuchItem { item });
+        };
+        Ok(Place { desk, item })
+    }
+}
+
+fn below(number: u64, count: u64) -> Option<u64>
+    ensures { result ≡ (if nat_lt number count then Some number else None) }
+{
+    if number < count { Some(number) } else { None }
 }

@@ -27,8 +27,8 @@ pub fn check_steps(
     house: &mut House,
     day: &[Step],
 ) -> Result<(), Fail> {
-    for (index, step) in day.iter().enumerate() {
-        check_step(rt, heap, house, *step).note(format_args!("step {index}"))?;
+    for step in day {
+        check_step(rt, heap, house, *step)?;
     }
     Ok(())
 }

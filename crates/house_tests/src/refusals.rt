@@ -182,10 +182,8 @@ static IMPORTS: [Case; 30] = [
 ];
 
 fn check_cases(rt: &impl Abort, heap: Global, cases: &[Case]) -> Result<(), Fail> {
-    for (index, (draft, lent, number, place)) in cases.iter().enumerate() {
-        check_refused(rt, heap, *lent, *draft, (*number, *place)).note(format_args!(
-            "case {index}"
-        ))?;
+    for (draft, lent, number, place) in cases {
+        check_refused(rt, heap, *lent, *draft, (*number, *place))?;
     }
     Ok(())
 }

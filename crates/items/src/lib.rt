@@ -1,5 +1,6 @@
 // The items of a desk in their row: a count, and then 130 numbers an item.
 #![tactic(auto)]
+
 ghost use Rattle.std.specs.Prelude.{◌≡◌, ◌≤◌, length};
 ghost use Rattle.items.specs.Rows.{ReadsFirst, ReadsItem, items_in};
 

@@ -1,5 +1,6 @@
 // The machine that a script runs on: its registers, and one line's work on them.
 #![tactic(auto)]
+
 mod effect;
 mod registers;
 

@@ -1,5 +1,6 @@
 // From the bytes of a day to what is printed of it.
 #![tactic(auto)]
+
 mod lines;
 mod text;
 

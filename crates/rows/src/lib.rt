@@ -1,6 +1,7 @@
 // Total access to a lent row: a number that is not there reads as 0 and takes no write.
 #![tactic(auto)]
-ghost use Rattle.std.specs.Prelude.{◌≡◌, ◌+◌, ◌-◌, ◌<◌, ◌≤◌, ◌++◌, length, take, drop, replicate, is_ok, if◌then◌else◌, MatchOption, slice_index, slice_set};
+
+ghost use Rattle.std.specs.Prelude.{◌≡◌, ◌+◌, ◌-◌, ◌<◌, ◌≤◌, ◌++◌, length, take, drop, replicate, MatchOption, OnOk, slice_index, slice_set};
 ghost use Rattle.rows.specs.Rows.{written_at};
 
 use std::alloc::AllocError;
@@ -64,12 +65,14 @@ pub fn clear_from(row: &mut [u64], at: usize)
     row[start..].fill(0);
 }
 
-// Puts so many numbers 0 behind those of the row; where memory is short the row is left as it was.
+// Puts so many numbers 0 behind those of the row.
 pub fn push_zeros(row: &mut Vec<u64>, count: usize) -> Result<(), AllocError>
-    ensures { row.new.items ≡ (if is_ok result then row.old.items ++ replicate count 0 else row.old.items) }
+    ensures { OnOk result (row.new.items ≡ row.old.items ++ replicate count 0) }
 {
-    let Some(length) = row.len().checked_add(count) else {
-        return Err(AllocError);
-    };
-    row.resize(length, 0)
+    let mut pushed = 0;
+    while pushed < count {
+        row.push(0)?;
+        pushed += 1;
+    }
+    Ok(())
 }

@@ -1,5 +1,6 @@
 // Runs a script from one asking to the next.
 #![tactic(auto)]
+
 ghost use Rattle.runner.specs.Run.{Progress, stepped};
 ghost use Rattle.script.specs.Rows.{script_in};
 ghost use Rattle.machine.specs.Machine.{rest};

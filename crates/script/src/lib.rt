@@ -1,5 +1,6 @@
 // Scripts: their lines, how a line stands in a row, and the list of refusals.
 #![tactic(auto)]
+
 mod layout;
 mod line;
 mod refusal;

@@ -1,8 +1,12 @@
-// A line as it comes from outside, which may be no line at all.
-ghost use Rattle.script.specs.Allowed.{counted_as, first_source, source_line};
-ghost use Rattle.std.specs.Prelude.{◌≡◌, drop};
+// A line as it comes from outside, which may be no line at all, and the checks that let it in.
+ghost use Rattle.script.specs.Allowed.{counted_as, first_source, line_fault, registers_known, skip_of, source_line};
+ghost use Rattle.script.specs.Layout.{max_skip};
+ghost use Rattle.std.specs.Prelude.{◌≡◌, ltb, drop, IfOk, if◌then◌else◌, Some, None, nat_lt};
+ghost use Rattle.std.specs.Result.{result_err};
 
+use super::layout::{MAX_SKIP, REGISTERS};
 use super::line::Line;
+use super::refusal::Refusal;
 use rows::number_after;
 
 // The highest kind that a line has.
@@ -48,5 +52,57 @@ impl SourceLine {
             SourceLine::Known(line) => line,
             SourceLine::Unknown { register, .. } => Line::Give { register },
         }
+    }
+
+    // The line itself if it is allowed, or the first reason why it is not; `line` is its number in the script.
+    pub fn check(self, line: u64) -> Result<Line, Refusal>
+        ensures fault { result_err result ≡ line_fault line self }
+        ensures value { IfOk result (λ allowed. self ≡ SourceLine.Known allowed) }
+    {
+        let SourceLine::Known(known) = self else {
+            return Err(Refusal::UnknownKind { line });
+        };
+        let Some(named) = with_known_registers(known) else {
+            return Err(Refusal::NoSuchRegister { line });
+        };
+        let Some(allowed) = with_short_skip(named) else {
+            return Err(Refusal::SkipsTooMany { line });
+        };
+        Ok(allowed)
+    }
+}
+
+fn is_register(register: u64) -> bool
+    ensures { result ≡ nat_lt register 8 }
+{
+    register < REGISTERS as u64
+}
+
+// The line, if every register that it names is there.
+fn with_known_registers(line: Line) -> Option<Line>
+    ensures { result ≡ (if registers_known line then Some line else None) }
+{
+    let known = match line {
+        Line::Ask { register, .. } => is_register(register),
+        Line::AskAt { register, at } => is_register(register) && is_register(at),
+        Line::Number { register, .. } => is_register(register),
+        Line::Sum {
+            register,
+            left,
+            right,
+        } => is_register(register) && is_register(left) && is_register(right),
+        Line::Unless { left, right, .. } => is_register(left) && is_register(right),
+        Line::Give { register } => is_register(register),
+    };
+    if known { Some(line) } else { None }
+}
+
+// The line, if it does not leave out too many.
+fn with_short_skip(line: Line) -> Option<Line>
+    ensures { result ≡ (if ltb max_skip (skip_of line) then None else Some line) }
+{
+    match line {
+        Line::Unless { skip, .. } if skip > MAX_SKIP => None,
+        _ => Some(line),
     }
 }

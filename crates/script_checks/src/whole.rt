@@ -3,7 +3,6 @@ ghost use Rattle.script.specs.Allowed.{ScriptAllowed, script_fault, sources_in};
 ghost use Rattle.std.specs.Prelude.{◌≡◌, is_ok, Decides};
 ghost use Rattle.std.specs.Result.{result_err};
 
-use super::line_check::check_line;
 use rows::number_after;
 use script::{LINE_SIZE, MAX_LINES, Refusal, SourceLine};
 
@@ -16,7 +15,7 @@ pub fn check_script(lines: &[SourceLine]) -> Result<(), Refusal>
         return Err(Refusal::TooManyLines);
     }
     for (index, line) in lines.iter().enumerate() {
-        let _ = check_line(*line, index as u64)?;
+        let _ = line.check(index as u64)?;
     }
     Ok(())
 }
@@ -32,7 +31,7 @@ pub fn check_script_row(script: &[u64]) -> Result<(), Refusal>
     }
     for index in 0..count {
         let line = SourceLine::read(script, 1 + LINE_SIZE * index);
-        let _ = check_line(line, index as u64)?;
+        let _ = line.check(index as u64)?;
     }
     Ok(())
 }

@@ -1,5 +1,5 @@
 // Whether two rows hold the same script.
-ghost use Rattle.std.specs.Prelude.{◌≡◌, ◌+◌, ◌^◌, ◌<◌, ◌≤◌, length, Decides};
+ghost use Rattle.std.specs.Prelude.{◌≡◌, ◌+◌, ◌≤◌, length, Decides};
 ghost use Rattle.script.specs.Layout.{line_size};
 ghost use Rattle.script.specs.Rows.{line_at, script_in};
 
@@ -29,14 +29,11 @@ pub fn same_script(left: &[u64], right: &[u64]) -> bool
 }
 
 fn same_line(left: &[u64], right: &[u64], at: usize) -> bool
-    requires { at + line_size < 2 ^ 64 }
     ensures { Decides result (line_at left.now at ≡ line_at right.now at) }
 {
-    let end = at + LINE_SIZE;
-    if end <= left.len() && end <= right.len() {
-        same_whole_line(left, right, at)
-    } else {
-        same_cut_line(left, right, at)
+    match at.checked_add(LINE_SIZE) {
+        Some(end) if end <= left.len() && end <= right.len() => same_whole_line(left, right, at),
+        _ => same_cut_line(left, right, at),
     }
 }
 

@@ -1,5 +1,6 @@
 // A script in a row: reading its lines, writing it, comparing two.
 #![tactic(auto)]
+
 mod comparing;
 mod reading;
 mod writing;

@@ -27,10 +27,14 @@ grown rows e fits fine =
     let stays = room_added rows e (omega arith) in
     record {
       entries = entries_added rows e fits long;
-      long = length_added rows e fits long;
       room = stays;
       within = rw (count_added rows e fits long, stays) (omega arith);
     }
+
+pub grown_long : (rows : List ℕ) (e : Entry) → Fitting e → add_fault rows ≡ None → length (added rows e) ≡ length rows
+grown_long rows e fits fine =
+    let room : (count_of rows < room_of rows) × (entry_at (room_of rows) ≤ length rows) = grind (arith, nat_tests) in
+    length_added rows e fits (omega arith)
 
 pub shrunk : (rows : List ℕ) (i : ℕ) → remove_fault rows i ≡ None → Shrunk rows (removed rows i) i
 shrunk rows i fine =
@@ -39,10 +43,14 @@ shrunk rows i fine =
     let stays = room_stays rows _ (entry_at i) (count_of rows - 1) (omega arith) (omega arith) in
     record {
       entries = entries_removed rows i room.0 long;
-      long = length_removed rows i room.0 long;
       room = stays;
       within = rw (count_removed rows i room.0 long, stays) (omega arith);
     }
+
+pub shrunk_long : (rows : List ℕ) (i : ℕ) → remove_fault rows i ≡ None → length (removed rows i) ≡ length rows
+shrunk_long rows i fine =
+    let room : (i < count_of rows) × (count_of rows ≤ room_of rows) × (entry_at (room_of rows) ≤ length rows) = grind (arith, nat_tests) in
+    length_removed rows i room.0 (omega arith)
 
 module _ {A : Type 0} (rows : List ℕ) {rows₁ : List ℕ} where
   pub grows : (r : Result A Refusal) (e : Entry) → Fitting e → (result_err r ≡ None → add_fault rows ≡ None) → rows₁ ≡ cond (is_ok r) (added rows e) rows → IfOk r (λ _. Grown rows rows₁ e)

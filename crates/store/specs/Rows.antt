@@ -1,5 +1,5 @@
 -- How a store stands in its row: the count kept, the room, and then the entries. Assumes nothing: these are definitions.
-use Rattle.std.specs.Prelude.{◌≡◌, ℕ, ◌+◌, ◌-◌, ◌*◌, ◌≤◌, List, [], ◌∷◌, ◌++◌, length, take, drop, set, replicate, slice_index, slice_set}
+use Rattle.std.specs.Prelude.{◌≡◌, ℕ, ◌+◌, ◌-◌, ◌*◌, ◌≤◌, List, [], ◌∷◌, ◌++◌, take, drop, set, replicate, slice_index, slice_set}
 use Rattle.rows.specs.Rows.{chunks}
 use Rattle.entry.specs.Entry.{Entry}
 use Rattle.entry.specs.Layout.{entry_size}
@@ -36,13 +36,11 @@ without xs i = take i xs ++ drop (i + 1) xs
 -- the store holds one entry more, at its end, and still no more than it has room for
 pub record Grown (rows rows₁ : List ℕ) (e : Entry) : Type 0 where
   pub entries : entries_in rows₁ ≡ entries_in rows ++ e ∷ []
-  pub long : length rows₁ ≡ length rows
   pub room : room_of rows₁ ≡ room_of rows
   pub within : count_of rows₁ ≤ room_of rows₁
 
 -- the store holds all but entry i, and no more than it has room for
 pub record Shrunk (rows rows₁ : List ℕ) (i : ℕ) : Type 0 where
   pub entries : entries_in rows₁ ≡ without (entries_in rows) i
-  pub long : length rows₁ ≡ length rows
   pub room : room_of rows₁ ≡ room_of rows
   pub within : count_of rows₁ ≤ room_of rows₁

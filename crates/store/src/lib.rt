@@ -1,5 +1,6 @@
 // The store of entries in its row: adding, importing, removing, and the room for them.
 #![tactic(auto)]
+
 mod adding;
 mod check;
 mod empty;

@@ -1,13 +1,14 @@
 // Rows from elsewhere, in which numbers that are not used may be anything.
-use super::examples::{ECHO, check_case, echo, entry_row, holds, same_entry, told};
+use super::examples::{ECHO, echo, entry_row, same_entry, told};
 use entry::{Asking, write_entry, write_from_parts};
-use rows::{put_all, tail};
+use rows::tail;
 use script::{Line, SourceLine};
 use script_rows::same_script;
-use store::{add_entry, import_entry};
+use std::test::Fail;
+use store::{add_entry, empty_store, entry_of, import_entry};
 
 // The lines of two scripts, and whether they are the same as they are read.
-static SCRIPTS: [(&[[u64; 4]], &[[u64; 4]], bool); 13] = [
+const SCRIPTS: [(&[[u64; 4]], &[[u64; 4]], bool); 13] = [
     (&[], &[], true),
     (&ECHO, &ECHO, true),
     // Numbers that a line does not use.
@@ -27,18 +28,17 @@ static SCRIPTS: [(&[[u64; 4]], &[[u64; 4]], bool); 13] = [
     (&ECHO, &[[0, 0, 3, 0], [5, 0, 0, 0], [5, 0, 0, 0]], false),
 ];
 
-// The scripts of two entries that differ in all else, compared both ways.
-fn same_both_ways(left: &[[u64; 4]], right: &[[u64; 4]]) -> (bool, bool) {
-    let one = entry_row(left, &[], 0);
-    let other = entry_row(right, &[[1, 2]], 3);
-    (same_script(&one, &other), same_script(&other, &one))
-}
-
 #[test]
 fn scripts(rt: HostRuntime) {
     for (index, (left, right, expected)) in SCRIPTS.iter().enumerate() {
-        let same = same_both_ways(*left, *right);
-        assert!(rt; same == (*expected, *expected), "scripts {index}");
+        let one = entry_row(*left, &[], 0);
+        let other = entry_row(*right, &[[1, 2]], 3);
+        assert_eq!(rt; same_script(&one, &other), *expected, "scripts {index}");
+        assert_eq!(rt;
+            same_script(&other, &one),
+            *expected,
+            "scripts {index} the other way round"
+        );
     }
 }
 
@@ -68,38 +68,31 @@ fn untidy() -> [u64; 195] {
 
 // They are 0 in the store.
 #[test]
-fn an_untidy_entry_is_kept_tidy(rt: HostRuntime) {
-    let mut rows = [0; 392];
-    put_all(&mut rows, 1, &[2]);
+fn an_untidy_entry_is_kept_tidy(rt: HostRuntime) -> Result<(), Fail> {
+    let mut rows = empty_store(rt.alloc(), 2)?;
+    assert_eq!(rt; told(import_entry(rows.as_mut_slice(), &untidy())), None);
+    assert!(rt; same_entry(entry_of(rows.as_slice(), 0), &echo(9)));
     let entry = untidy();
-    let askings = tail(&entry, 129);
-    check_case(&rt, 0, told(import_entry(&mut rows, &entry)), (0, 0));
-    check_case(
-        &rt,
-        1,
-        told(add_entry(&mut rows, &entry, askings, 9)),
-        (0, 0),
-    );
-    check_case(
-        &rt,
-        2,
-        told(add_entry(&mut rows, &entry, askings, 9)),
-        (11, 2),
-    );
-    assert!(rt; holds(&rows, 0, 9) && holds(&rows, 1, 9));
+    let added = add_entry(rows.as_mut_slice(), &entry, tail(&entry, 129), 9);
+    assert_eq!(rt; told(added), None);
+    assert!(rt; same_entry(entry_of(rows.as_slice(), 1), &echo(9)));
+    let again = add_entry(rows.as_mut_slice(), &entry, tail(&entry, 129), 9);
+    assert_eq!(rt; told(again), Some((11, 2)));
+    Ok(())
 }
 
 #[test]
 fn entries_are_written_into_their_own_size(rt: HostRuntime) {
     let entry = untidy();
-    let askings = tail(&entry, 129);
-    let mut row = [7; 196];
-    write_entry(&mut row[..194], &entry, askings, 9);
-    write_entry(&mut row, &entry, askings, 9);
-    assert!(rt; same_entry(&row, &[7; 195]) && row[195] == 7);
+    let mut short = [7; 194];
+    write_entry(&mut short, &entry, tail(&entry, 129), 9);
+    assert!(rt; short == [7; 194]);
+    let mut long = [7; 196];
+    write_entry(&mut long, &entry, tail(&entry, 129), 9);
+    assert!(rt; long == [7; 196]);
     let mut right = [7; 195];
-    write_entry(&mut right, &entry, askings, 9);
-    assert!(rt; same_entry(&right, &echo(9)));
+    write_entry(&mut right, &entry, tail(&entry, 129), 9);
+    assert!(rt; right == echo(9));
 }
 
 const LINES: [SourceLine; 2] = [
@@ -117,8 +110,10 @@ fn entries_are_written_from_parts(rt: HostRuntime) {
     let mut row = [7; 195];
     write_from_parts(&mut row, &[LINES[1]; 33], &[ASKING], 9);
     write_from_parts(&mut row, &LINES, &[ASKING; 33], 9);
-    write_from_parts(&mut row[..194], &LINES, &[ASKING], 9);
-    assert!(rt; same_entry(&row, &[7; 195]));
+    assert!(rt; row == [7; 195]);
     write_from_parts(&mut row, &LINES, &[ASKING], 9);
-    assert!(rt; same_entry(&row, &echo(9)));
+    assert!(rt; row == echo(9));
+    let mut short = [7; 194];
+    write_from_parts(&mut short, &LINES, &[ASKING], 9);
+    assert!(rt; short == [7; 194]);
 }

@@ -1,5 +1,7 @@
-// Tests of entries and the store, on examples whose answers come from the rules.
+// Tests of entries, the store and the commands that change it, on examples whose answers come from the rules.
 #![tactic(auto)]
+#[cfg(test)]
+mod commands;
 #[cfg(test)]
 mod examples;
 #[cfg(test)]
@@ -7,7 +9,7 @@ mod foreign;
 #[cfg(test)]
 mod moving;
 #[cfg(test)]
-mod refusals;
+mod order;
 #[cfg(test)]
 mod replaying;
 #[cfg(test)]

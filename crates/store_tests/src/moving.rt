@@ -1,121 +1,141 @@
 // What each place of a store holds while it is filled and emptied.
-use super::examples::{Change, check_case, holds, told};
-use rows::{number_after, put_all, tail};
-use std::alloc::Global;
+use super::examples::{echo, same_entry, told};
+use rows::number_after;
+use std::alloc::{AllocError, Global};
 use std::process::Abort;
 use std::test::Fail;
-use store::{check_store, empty_store, entry_count, entry_of};
+use store::{check_store, empty_store, entry_count, entry_of, import_entry, remove_entry};
 
-// A change, what is told of it, how many entries are kept then, and what each place holds.
-type Step = (Change, (u64, u64), u64, &'static [u64]);
-
-static FILLING: [Step; 5] = [
-    (Change::Echo(1), (0, 0), 1, &[1, 0, 0, 0]),
-    (Change::Echo(2), (0, 0), 2, &[1, 2, 0, 0]),
-    (Change::Echo(3), (0, 0), 3, &[1, 2, 3, 0]),
-    (Change::Echo(4), (0, 0), 4, &[1, 2, 3, 4]),
-    (Change::Echo(5), (11, 4), 4, &[1, 2, 3, 4]),
-];
-
-const FROM_THE_FRONT: [Step; 5] = [
-    (Change::Remove(0), (0, 0), 3, &[2, 3, 4, 0]),
-    (Change::Remove(0), (0, 0), 2, &[3, 4, 0, 0]),
-    (Change::Remove(0), (0, 0), 1, &[4, 0, 0, 0]),
-    (Change::Remove(0), (0, 0), 0, &[0, 0, 0, 0]),
-    (Change::Remove(0), (8, 0), 0, &[0, 0, 0, 0]),
-];
-
-const FROM_THE_BACK: [Step; 5] = [
-    (Change::Remove(3), (0, 0), 3, &[1, 2, 3, 0]),
-    (Change::Remove(2), (0, 0), 2, &[1, 2, 0, 0]),
-    (Change::Remove(1), (0, 0), 1, &[1, 0, 0, 0]),
-    (Change::Remove(0), (0, 0), 0, &[0, 0, 0, 0]),
-    (Change::Remove(0), (8, 0), 0, &[0, 0, 0, 0]),
-];
-
-const FROM_THE_MIDDLE: [Step; 5] = [
-    (Change::Remove(1), (0, 0), 3, &[1, 3, 4, 0]),
-    (Change::Remove(2), (0, 0), 2, &[1, 3, 0, 0]),
-    (Change::Remove(0), (0, 0), 1, &[3, 0, 0, 0]),
-    (Change::Remove(0), (0, 0), 0, &[0, 0, 0, 0]),
-    (Change::Remove(0), (8, 0), 0, &[0, 0, 0, 0]),
-];
-
-// A place that was freed is taken again.
-const FREED: [Step; 2] = [
-    (Change::Remove(1), (0, 0), 3, &[1, 3, 4, 0]),
-    (Change::Echo(5), (0, 0), 4, &[1, 3, 4, 5]),
-];
-
-// What is done with the store once it is full.
-static DAYS: [&[Step]; 4] = [&FROM_THE_FRONT, &FROM_THE_BACK, &FROM_THE_MIDDLE, &FREED];
-
-fn all_hold(rows: &[u64], answers: &[u64]) -> bool {
-    for (place, answer) in answers.iter().enumerate() {
-        if !holds(rows, place, *answer) {
-            return false;
-        }
-    }
-    true
-}
-
-// A store in order, with a place for each answer, and these numbers behind its room.
-fn check_places(rt: &impl Abort, rows: &[u64], count: u64, answers: &[u64], behind: &[u64]) {
-    let counts = (entry_count(rows), number_after(rows, 1, 0));
-    check_case(rt, 0, counts, (count, answers.len() as u64));
-    check_case(rt, 1, told(check_store(rows)), (0, 0));
-    assert!(rt; all_hold(rows, answers));
-    assert!(rt; tail(rows, rows.len().saturating_sub(behind.len())) == behind);
-}
-
-fn check_steps(rt: &impl Abort, rows: &mut [u64], steps: &[Step], behind: &[u64]) {
-    for (index, (change, expected, count, answers)) in steps.iter().enumerate() {
-        check_case(rt, index, change.make(rows), *expected);
-        check_places(rt, rows, *count, *answers, behind);
+// The store holds so many entries, and these are its places: an answer for each entry, and 0 for a place that is free.
+fn check_places(rt: &impl Abort, rows: &[u64], room: u64, count: u64, answers: &[u64]) {
+    assert_eq!(rt; entry_count(rows), count);
+    assert_eq!(rt; number_after(rows, 1, 0), room);
+    assert_eq!(rt; told(check_store(rows)), None);
+    for (index, answer) in answers.iter().enumerate() {
+        let holds = if *answer == 0 {
+            same_entry(entry_of(rows, index), &[])
+        } else {
+            same_entry(entry_of(rows, index), &echo(*answer))
+        };
+        assert!(rt; holds, "place {index}");
     }
 }
 
-fn check_day(rt: &impl Abort, rows: &mut [u64], steps: &[Step]) {
-    assert_eq!(rt; rows.len(), 782);
-    check_places(rt, rows, 0, &[0, 0, 0, 0], &[]);
-    check_steps(rt, rows, &FILLING, &[]);
-    check_steps(rt, rows, steps, &[]);
-}
-
-fn check_day_in_new_store(rt: &impl Abort, heap: Global, steps: &[Step]) -> Result<(), Fail> {
+// A store with room for four entries, which holds those of 1 to 4.
+fn full_store(heap: Global) -> Result<Vec<u64>, AllocError> {
     let mut rows = empty_store(heap, 4)?;
-    check_day(rt, rows.as_mut_slice(), steps);
-    Ok(())
+    for answer in 1..5 {
+        let _ = import_entry(rows.as_mut_slice(), &echo(answer));
+    }
+    Ok(rows)
 }
 
 #[test]
-fn filling_and_emptying(rt: HostRuntime) -> Result<(), Fail> {
-    for steps in DAYS.iter() {
-        check_day_in_new_store(&rt, rt.alloc(), *steps)?;
-    }
+fn filling(rt: HostRuntime) -> Result<(), Fail> {
+    let mut rows = empty_store(rt.alloc(), 4)?;
+    assert_eq!(rt; rows.len(), 782);
+    check_places(&rt, rows.as_slice(), 4, 0, &[0, 0, 0, 0]);
+    assert_eq!(rt; told(import_entry(rows.as_mut_slice(), &echo(1))), None);
+    check_places(&rt, rows.as_slice(), 4, 1, &[1, 0, 0, 0]);
+    assert_eq!(rt; told(import_entry(rows.as_mut_slice(), &echo(2))), None);
+    check_places(&rt, rows.as_slice(), 4, 2, &[1, 2, 0, 0]);
+    assert_eq!(rt; told(import_entry(rows.as_mut_slice(), &echo(3))), None);
+    check_places(&rt, rows.as_slice(), 4, 3, &[1, 2, 3, 0]);
+    assert_eq!(rt; told(import_entry(rows.as_mut_slice(), &echo(4))), None);
+    check_places(&rt, rows.as_slice(), 4, 4, &[1, 2, 3, 4]);
+    assert_eq!(rt;
+        told(import_entry(rows.as_mut_slice(), &echo(5))),
+        Some((11, 4))
+    );
+    check_places(&rt, rows.as_slice(), 4, 4, &[1, 2, 3, 4]);
     Ok(())
 }
 
-static ONE_PLACE: [Step; 2] = [
-    (Change::Echo(1), (0, 0), 1, &[1]),
-    (Change::Remove(0), (0, 0), 0, &[0]),
+// Removes entries one after the other from a full store. Of each removal stand here: which entry goes, how many are left, and what the places hold then.
+fn check_emptying(
+    rt: &impl Abort,
+    heap: Global,
+    removals: &[(u64, u64, &[u64])],
+) -> Result<(), Fail> {
+    let mut rows = full_store(heap)?;
+    check_places(rt, rows.as_slice(), 4, 4, &[1, 2, 3, 4]);
+    for (index, count, answers) in removals {
+        assert_eq!(rt; told(remove_entry(rows.as_mut_slice(), *index)), None);
+        check_places(rt, rows.as_slice(), 4, *count, *answers);
+    }
+    assert_eq!(rt; told(remove_entry(rows.as_mut_slice(), 0)), Some((8, 0)));
+    Ok(())
+}
+
+const FROM_THE_FRONT: [(u64, u64, &[u64]); 4] = [
+    (0, 3, &[2, 3, 4, 0]),
+    (0, 2, &[3, 4, 0, 0]),
+    (0, 1, &[4, 0, 0, 0]),
+    (0, 0, &[0, 0, 0, 0]),
 ];
+
+#[test]
+fn emptying_from_the_front(rt: HostRuntime) -> Result<(), Fail> {
+    check_emptying(&rt, rt.alloc(), &FROM_THE_FRONT)
+}
+
+const FROM_THE_BACK: [(u64, u64, &[u64]); 4] = [
+    (3, 3, &[1, 2, 3, 0]),
+    (2, 2, &[1, 2, 0, 0]),
+    (1, 1, &[1, 0, 0, 0]),
+    (0, 0, &[0, 0, 0, 0]),
+];
+
+#[test]
+fn emptying_from_the_back(rt: HostRuntime) -> Result<(), Fail> {
+    check_emptying(&rt, rt.alloc(), &FROM_THE_BACK)
+}
+
+const FROM_THE_MIDDLE: [(u64, u64, &[u64]); 4] = [
+    (1, 3, &[1, 3, 4, 0]),
+    (2, 2, &[1, 3, 0, 0]),
+    (0, 1, &[3, 0, 0, 0]),
+    (0, 0, &[0, 0, 0, 0]),
+];
+
+#[test]
+fn emptying_from_the_middle(rt: HostRuntime) -> Result<(), Fail> {
+    check_emptying(&rt, rt.alloc(), &FROM_THE_MIDDLE)
+}
+
+#[test]
+fn a_freed_place_is_taken_again(rt: HostRuntime) -> Result<(), Fail> {
+    let mut rows = full_store(rt.alloc())?;
+    assert_eq!(rt; told(remove_entry(rows.as_mut_slice(), 1)), None);
+    assert_eq!(rt; told(import_entry(rows.as_mut_slice(), &echo(5))), None);
+    check_places(&rt, rows.as_slice(), 4, 4, &[1, 3, 4, 5]);
+    Ok(())
+}
 
 // A row that is longer than its room needs: what lies behind stays.
 #[test]
-fn behind_the_room(rt: HostRuntime) {
-    let mut rows = [0; 199];
-    put_all(&mut rows, 1, &[1]);
-    put_all(&mut rows, 197, &[77, 78]);
-    check_steps(&rt, &mut rows, &ONE_PLACE, &[77, 78]);
+fn behind_the_room(rt: HostRuntime) -> Result<(), Fail> {
+    let mut rows = empty_store(rt.alloc(), 1)?;
+    rows.push(77)?;
+    rows.push(78)?;
+    assert_eq!(rt; told(import_entry(rows.as_mut_slice(), &echo(1))), None);
+    check_places(&rt, rows.as_slice(), 1, 1, &[1]);
+    assert_eq!(rt; number_after(rows.as_slice(), 197, 0), 77);
+    assert_eq!(rt; told(remove_entry(rows.as_mut_slice(), 0)), None);
+    check_places(&rt, rows.as_slice(), 1, 0, &[0]);
+    assert_eq!(rt; rows.len(), 199);
+    assert_eq!(rt; number_after(rows.as_slice(), 197, 0), 77);
+    assert_eq!(rt; number_after(rows.as_slice(), 198, 0), 78);
+    Ok(())
 }
 
 // An entry that is not there has nothing in it.
 #[test]
-fn places_past_the_end(rt: HostRuntime) {
-    let rows = [0; 782];
-    assert_eq!(rt; entry_of(&rows, 3).len(), 195);
-    assert_eq!(rt; entry_of(&rows, 4).len(), 0);
-    assert_eq!(rt; entry_of(&rows, usize::MAX).len(), 0);
+fn places_past_the_end(rt: HostRuntime) -> Result<(), Fail> {
+    let rows = full_store(rt.alloc())?;
+    assert_eq!(rt; entry_of(rows.as_slice(), 3).len(), 195);
+    assert_eq!(rt; entry_of(rows.as_slice(), 4).len(), 0);
+    assert_eq!(rt; entry_of(rows.as_slice(), usize::MAX).len(), 0);
     assert_eq!(rt; entry_count(&[]), 0);
+    Ok(())
 }

@@ -1,7 +1,7 @@
 -- The numbers of a store's file. Assumes nothing: these are definitions.
 use Rattle.std.specs.Prelude.{◌≡◌, ℕ, ◌/◌, ◌%◌, List, length, Ok, Err, vec_items, Result, Vec}
 use Rattle.std.specs.declared.alloc.Global.{Global}
-use Rattle.bytes.specs.Bytes.{low_first}
+use Rattle.byte_reading.specs.Bytes.{low_first}
 use Rattle.rows.specs.Rows.{chunks}
 use Rattle.storefile.specs.declared.StoreFileError.{StoreFileError}
 use Rattle.storefile.specs.declared.StoreFileError.TheVariants.{NotWholeNumbers, OutOfMemory}

@@ -1,10 +1,11 @@
 // Reads the row of a store from the bytes of a file.
 #![tactic(auto)]
+
 ghost use Rattle.std.specs.Prelude.{◌≡◌, IfOk};
 ghost use Rattle.storefile.specs.File.{StoreRead, numbers_in};
 ghost use Rattle.storefile.specs.declared.StoreFileError.TheVariants.{OutOfMemory};
 
-use bytes::read_u64;
+use byte_reading::read_u64;
 use rows::tail;
 use std::alloc::{AllocError, Global};
 

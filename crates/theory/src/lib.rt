@@ -1,5 +1,6 @@
 // The theory of values, runs, reach and rings, and of builds over a store. Its statements stand in the definitions; these functions owe their proofs.
 #![tactic(auto)]
+
 ghost use Rattle.theory.specs.BuildLaws.{BuildsExist, CutShort, FewAskings, OneBuild, ReferenceFits, SecondRunsNothing, StaysHonest, StaysWithin};
 ghost use Rattle.theory.specs.Laws.{BoundEnough, HonestUsable, LooksNoFurther, NoNewRing, OneValue, RingExactly};
 ghost use Rattle.theory.specs.Worked.{WorkedDay};

@@ -10,17 +10,17 @@ use Rattle.clean.proofs.clean_build.Goals as goal
 pub evaluate-answer-requires : goal.evaluate-answer-requires
 evaluate-answer-requires c =
     let d = items_in c.args.items.now in
-    record { sound = fresh_sound d 256 (items_few c.args.items.now); deep = omega (arith, none_seen (length d) 256, c.item-count-count.ensures.value) }
+    record { sound = fresh_sound d 256 (items_few c.args.items.now); deep = omega (arith, none_seen (length d) 256, c.item_count-count.ensures.value) }
 
 pub returns : goal.returns
 returns c =
     let d = items_in c.args.items.now in
     record {
-      fault = grind (arith, nat_tests, c.item-count-count.ensures.value);
+      fault = grind (arith, nat_tests, c.item_count-count.ensures.value);
       answer = whole_answer d 256 _ c.args.item c.evaluate-answer.result c.evaluate-answer.ensures;
       list = record {
         ran = known_items c.evaluate-answer.new.marks (length d);
         built = whole_built d 256 _ c.args.item c.evaluate-answer.result c.evaluate-answer.ensures;
-        row = c.list-known.ensures ∙ ap (λ n. listed (known_items c.evaluate-answer.new.marks n) c.args.ran.now) c.item-count-count.ensures.value;
+        row = c.list_known.ensures ∙ ap (λ n. listed (known_items c.evaluate-answer.new.marks n) c.args.ran.now) c.item_count-count.ensures.value;
       };
     }

@@ -5,6 +5,6 @@ use Rattle.items.proofs.item_count.Goals as goal
 
 pub returns : goal.returns
 returns c = record {
-  value = c.min.ensures ∙ ap (λ n. min n max_items) c.number-after-count.ensures ∙ sym (count_in first_item item_size max_items c.args.items.now);
+  value = c.min.ensures ∙ ap (λ n. min n max_items) c.number_after-count.ensures ∙ sym (count_in first_item item_size max_items c.args.items.now);
   bound = omega arith;
 }

@@ -5,15 +5,15 @@ use Rattle.theory.specs.Items.{item, written}
 use Rattle.items.specs.Rows.{StandsFor, first_item, item_size, items_in, max_items}
 use Rattle.items.proofs.item_of.Goals as goal
 
-pub returns-then-item-item-count : goal.returns-then-item-item-count
-returns-then-item-item-count c =
-    let past : length (items_in c.args.items.now) ≤ c.args.item = omega (arith, c.item-count.ensures.value, c.if-item-item-count.true) in
+pub returns-then-item-item_count : goal.returns-then-item-item_count
+returns-then-item-item_count c =
+    let past : length (items_in c.args.items.now) ≤ c.args.item = omega (arith, c.item_count.ensures.value, c.if-item-item_count.true) in
     get_or_past _ _ _ past
 
 pub returns : goal.returns
 returns c =
     let row = c.args.items.now in
     let k = c.args.item in
-    let inside : k < length (items_in row) = omega (arith, c.item-count.ensures.value, c.if-item-item-count.false) in
+    let inside : k < length (items_in row) = omega (arith, c.item_count.ensures.value, c.if-item-item_count.false) in
     let here = counted_at first_item item_size max_items row k (written 0) inside ∙ ap first_item (sym c.tail.ensures) in
-    subst (λ i. StandsFor i c.first-item.result) (sym here) c.first-item.ensures
+    subst (λ i. StandsFor i c.first_item.result) (sym here) c.first_item.ensures

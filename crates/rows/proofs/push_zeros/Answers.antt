@@ -1,13 +1,9 @@
-use Rattle.std.proofs.Common.{◌≡◌, ◌-◌, length, take, vec_items, vec_len, arith}
-use Rattle.std.proofs.lemmas.List.{take_all}
+use Rattle.std.proofs.Common.{[], ◌∷◌, ◌++◌, replicate, vec_items, ap, ◌∙◌, arith}
+use Rattle.std.proofs.lemmas.List.{append_assoc, replicate_more}
 use Rattle.rows.proofs.push_zeros.Goals as goal
 
--- nothing of the row is cut off, and as many numbers come behind it as were asked for
-pub returns : goal.returns
-returns c =
-    let row = c.args.row.now in
-    let full : vec_len row ≡ length (vec_items row) = row.ok.0 in
-    let grown = c.in-Some.ensures.1 in
-    let whole : take c.in-Some.length (vec_items row) ≡ vec_items row = take_all c.in-Some.length (vec_items row) (omega (arith, full, grown, c.len.ensures)) in
-    let more : c.in-Some.length - vec_len row ≡ c.args.count = omega (arith, grown, c.len.ensures) in
-    rw (whole, more) at c.resize.ensures.items
+pub loop-pushed-preserved : goal.loop-pushed-preserved
+loop-pushed-preserved c = (
+  c.in_ok-push.ensures.items ∙ ap (λ xs. xs ++ 0 ∷ []) c.loop-pushed.invariant.0 ∙ append_assoc (vec_items c.args.row.now) (replicate c.loop-pushed.pushed 0) (0 ∷ []) ∙ ap (λ zs. vec_items c.args.row.now ++ zs) (replicate_more c.loop-pushed.pushed 0),
+  omega arith,
+)

@@ -9,5 +9,5 @@ loop-line-init c = record { short = script_short c.args.script.now; same = refl;
 
 pub returns : goal.returns
 returns c =
-    let past = rw c.next-line.ensures at c.in-default.ensures in
+    let past = rw c.next_line.ensures at c.in_default.ensures in
     record { step = c.loop-line.invariant.same ∙ rest_end _ c.loop-line.state past; progress = tt }

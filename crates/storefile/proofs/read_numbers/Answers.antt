@@ -8,4 +8,4 @@ loop-index-init c = c.new-numbers.ensures.items ∙ sym (chunks_none first_numbe
 
 pub loop-index-preserved : goal.loop-index-preserved
 loop-index-preserved c =
-    chunks_push first_number number_bytes c.loop-index.index c.args.bytes.now c.loop-index.invariant (c.read-u64.ensures ∙ ap first_number c.tail.ensures) c.in-ok-push.ensures.items
+    chunks_push first_number number_bytes c.loop-index.index c.args.bytes.now c.loop-index.invariant (c.read_u64.ensures ∙ ap first_number c.tail.ensures) c.in_ok-push.ensures.items

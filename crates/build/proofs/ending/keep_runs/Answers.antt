@@ -4,7 +4,7 @@ use Rattle.build.specs.Leaves.{is_run, left_from}
 use Rattle.build.proofs.Keeping.{Keeping, keeping_more, keeping_none, keeping_same}
 use Rattle.build.proofs.Listing.{not_run}
 use Rattle.build.proofs.ending.keep_runs.Goals as goal
-use Rattle.build.proofs.ending.keep_runs.Goals.{in-Ran, in-default}
+use Rattle.build.proofs.ending.keep_runs.Goals.{in-Ran, in_default}
 
 pub loop-item-init : goal.loop-item-init
 loop-item-init c = keeping_none (items_in c.args.items.now) c.args.scratch.now c.args.rows.now
@@ -19,9 +19,9 @@ loop-item-preserved c =
       | in-Ran w ↦
           let ran = w.in-Ran.ensures in
           subst (λ row. Keeping d σ rows (i + 1) row) (sym w.rows-is)
-          (keeping_more d σ rows i c.loop-item.rows c.loop-item.invariant w.add-entry.result _ w.add-entry.new.rows (sym (ap is_run ran))
-          (λ x. left_from (w.script-row.ensures x) (w.askings-askings.ensures x) (ran x)) w.add-entry.ensures.fault w.add-entry.ensures.after)
-      | in-default w ↦
+          (keeping_more d σ rows i c.loop-item.rows c.loop-item.invariant w.add_entry.result _ w.add_entry.new.rows (sym (ap is_run ran))
+          (λ x. left_from (w.script_row.ensures x) (ran x)) w.add_entry.ensures.fault w.add_entry.ensures.after)
+      | in_default w ↦
           subst (λ row. Keeping d σ rows (i + 1) row) (sym w.rows-is)
-          (keeping_same d σ rows i c.loop-item.rows c.loop-item.invariant (sym (ap is_run c.state.ensures) ∙ not_run c.state.result w.in-default.not-Ran))
+          (keeping_same d σ rows i c.loop-item.rows c.loop-item.invariant (sym (ap is_run c.state.ensures) ∙ not_run c.state.result w.in_default.not-Ran))
     ]

@@ -1,10 +1,9 @@
-use Rattle.std.proofs.Common.{◌≡◌, ◌+◌, ◌-◌, ◌*◌, ◌≤◌, [], length}
+use Rattle.std.proofs.Common.{◌≡◌, ◌+◌, ◌-◌, ◌*◌, ◌≤◌, length}
 use Rattle.entry.specs.Entry.{Honest}
+use Rattle.entry.specs.Layout.{askings_size}
 use Rattle.entry.specs.Rows.{askings_in, entry_in}
 use Rattle.script.specs.Rows.{script_in}
-use Rattle.build.specs.Scratch.{row_of, state_of}
 use Rattle.build.specs.Sound.{Ready, entries_of, items_of}
-use Rattle.build.specs.declared.scratch.State.TheVariants.{Open}
 use Rattle.build.proofs.Recalls.{Recalling}
 use Rattle.build.proofs.Runs.{Running}
 use Rattle.build.proofs.Tests.{Trying}
@@ -19,11 +18,11 @@ decreases-make l = 4 * l.depth + 3
 abbrev pub decreases-recall : goal.decreases-recall
 decreases-recall l = 4 * l.depth + 2
 
-abbrev pub decreases-run-script : goal.decreases-run-script
-decreases-run-script l = 4 * l.depth + 1
+abbrev pub decreases-run_script : goal.decreases-run_script
+decreases-run_script l = 4 * l.depth + 1
 
-abbrev pub decreases-test-answers : goal.decreases-test-answers
-decreases-test-answers l = 4 * l.depth + 1
+abbrev pub decreases-test_answers : goal.decreases-test_answers
+decreases-test_answers l = 4 * l.depth + 1
 
 -- none of the entries so far saves the script
 abbrev pub invariant-recall-loop-index : goal.invariant-recall-loop-index
@@ -31,21 +30,23 @@ invariant-recall-loop-index l =
     Ready (items_of l.lent) (entries_of l.lent) l.initial.scratch l.depth →
     Recalling (items_of l.lent) (entries_of l.lent) (script_in l.script) l.initial.scratch l.index l.scratch
 
--- the askings so far are the run's
-abbrev pub invariant-run-script-loop-item : goal.invariant-run-script-loop-item
-invariant-run-script-loop-item l =
-    Ready (items_of l.lent) (entries_of l.lent) l.initial.scratch l.depth → state_of l.initial.scratch l.asker ≡ Open → askings_in (row_of l.initial.scratch l.asker) ≡ [] →
-    Running (items_of l.lent) (entries_of l.lent) (script_in l.script) l.asker l.initial.scratch l.registers l.scratch
+-- there is room for the askings to come, and those so far are the run's
+abbrev pub invariant-run_script-loop-item : goal.invariant-run_script-loop-item
+invariant-run_script-loop-item l =
+    (length l.askings ≡ askings_size)
+    × (length (askings_in l.askings) ≤ l.registers.next)
+    × (Ready (items_of l.lent) (entries_of l.lent) l.initial.scratch l.depth →
+    Running (items_of l.lent) (entries_of l.lent) (script_in l.script) l.initial.scratch (askings_in l.askings) l.registers l.scratch)
 
-abbrev pub decreases-run-script-loop-item : goal.decreases-run-script-loop-item
-decreases-run-script-loop-item l = length (script_in l.script) - l.registers.next
+abbrev pub decreases-run_script-loop-item : goal.decreases-run_script-loop-item
+decreases-run_script-loop-item l = length (script_in l.script) - l.registers.next
 
 -- the answers so far are right
-abbrev pub invariant-test-answers-loop-asking : goal.invariant-test-answers-loop-asking
-invariant-test-answers-loop-asking l =
+abbrev pub invariant-test_answers-loop-asking : goal.invariant-test_answers-loop-asking
+invariant-test_answers-loop-asking l =
     (l.index ≤ length (askings_in l.askings))
     × (Ready (items_of l.lent) (entries_of l.lent) l.initial.scratch l.depth → Honest (entry_in l.row) →
     Trying (items_of l.lent) (entries_of l.lent) (entry_in l.row) l.initial.scratch l.index l.scratch)
 
-abbrev pub decreases-test-answers-loop-asking : goal.decreases-test-answers-loop-asking
-decreases-test-answers-loop-asking l = length (askings_in l.askings) - l.index
+abbrev pub decreases-test_answers-loop-asking : goal.decreases-test_answers-loop-asking
+decreases-test_answers-loop-asking l = length (askings_in l.askings) - l.index

@@ -9,4 +9,4 @@ loop-index-init c = c.new-lines.ensures.items ∙ sym (chunks_none first_source 
 
 pub loop-index-preserved : goal.loop-index-preserved
 loop-index-preserved c =
-    chunks_push first_source line_size c.loop-index.index c.args.numbers.now c.loop-index.invariant c.read.ensures c.in-ok-push.ensures.items
+    chunks_push first_source line_size c.loop-index.index c.args.numbers.now c.loop-index.invariant c.read.ensures c.in_ok-push.ensures.items

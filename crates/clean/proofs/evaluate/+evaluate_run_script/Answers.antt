@@ -12,8 +12,8 @@ use Rattle.clean.proofs.evaluate.+evaluate_run_script.Goals as goal
 pub evaluate-returns-in-Written : goal.evaluate-returns-in-Written
 evaluate-returns-in-Written t c = written_evaluated c.requires.sound _ _ c.in-Written.ensures
 
-pub evaluate-offset-bounds-marks-item : goal.evaluate-offset-bounds-marks-item
-evaluate-offset-bounds-marks-item t c = omega (arith, made_few c.args.items.now c.args.item c.in-Made.ensures)
+pub evaluate-offset_bounds-marks-item : goal.evaluate-offset_bounds-marks-item
+evaluate-offset_bounds-marks-item t c = omega (arith, made_few c.args.items.now c.args.item c.in-Made.ensures)
 
 pub evaluate-bounds : goal.evaluate-bounds
 evaluate-bounds t c = marked_there _ c.requires.sound c.in-Made.ensures
@@ -24,22 +24,22 @@ evaluate-bounds-marks-item t c = marked_there _ c.requires.sound c.in-Made.ensur
 pub evaluate-returns-in-Known : goal.evaluate-returns-in-Known
 evaluate-returns-in-Known t c = known_already c.requires.sound _ _ c.in-Known.is
 
-pub evaluate-offset-bounds-marks-item-in-Unseen : goal.evaluate-offset-bounds-marks-item-in-Unseen
-evaluate-offset-bounds-marks-item-in-Unseen t c = omega (arith, made_few c.args.items.now c.args.item c.in-Made.ensures)
+pub evaluate-offset_bounds-marks-item-in-Unseen : goal.evaluate-offset_bounds-marks-item-in-Unseen
+evaluate-offset_bounds-marks-item-in-Unseen t c = omega (arith, made_few c.args.items.now c.args.item c.in-Made.ensures)
 
 pub evaluate-bounds-marks-item-in-Unseen : goal.evaluate-bounds-marks-item-in-Unseen
 evaluate-bounds-marks-item-in-Unseen t c = marked_there _ c.requires.sound c.in-Made.ensures
 
-pub evaluate-overflow-sub-depth : goal.evaluate-overflow-sub-depth
-evaluate-overflow-sub-depth t c = (opened_ready (record { sound = c.requires.sound; is_made = c.in-Made.ensures; is_unseen = c.in-Unseen.is }) c.requires.deep).0
+pub evaluate-overflow_sub-depth : goal.evaluate-overflow_sub-depth
+evaluate-overflow_sub-depth t c = (opened_ready (record { sound = c.requires.sound; is_made = c.in-Made.ensures; is_unseen = c.in-Unseen.is }) c.requires.deep).0
 
-pub evaluate-run-script-answer-requires : goal.evaluate-run-script-answer-requires
-evaluate-run-script-answer-requires t c =
+pub evaluate-run_script-answer-requires : goal.evaluate-run_script-answer-requires
+evaluate-run_script-answer-requires t c =
     let ready = opened_ready (record { sound = c.requires.sound; is_made = c.in-Made.ensures; is_unseen = c.in-Unseen.is }) c.requires.deep in
     (search rules, ready.1)
 
-pub evaluate-offset-bounds-marks-item-in-Value : goal.evaluate-offset-bounds-marks-item-in-Value
-evaluate-offset-bounds-marks-item-in-Value t c = omega (arith, made_few c.args.items.now c.args.item c.in-Made.ensures)
+pub evaluate-offset_bounds-marks-item-in-Value : goal.evaluate-offset_bounds-marks-item-in-Value
+evaluate-offset_bounds-marks-item-in-Value t c = omega (arith, made_few c.args.items.now c.args.item c.in-Made.ensures)
 
 pub evaluate-bounds-marks-item-in-Value : goal.evaluate-bounds-marks-item-in-Value
 evaluate-bounds-marks-item-in-Value t c = marked_there _ c.in-Value.ensures.sound c.in-Made.ensures
@@ -47,20 +47,20 @@ evaluate-bounds-marks-item-in-Value t c = marked_there _ c.in-Value.ensures.soun
 pub evaluate-returns-in-Value : goal.evaluate-returns-in-Value
 evaluate-returns-in-Value t c = known_evaluated (record { sound = c.requires.sound; is_made = c.in-Made.ensures; is_unseen = c.in-Unseen.is }) c.in-Value.ensures
 
-pub evaluate-returns-in-default : goal.evaluate-returns-in-default
-evaluate-returns-in-default t c =
-    subst (Evaluated _ _ c.run-script-answer.new.marks _) (sym c.in-default.is)
-    (held_evaluated (record { sound = c.requires.sound; is_made = c.in-Made.ensures; is_unseen = c.in-Unseen.is }) c.in-default.ensures)
+pub evaluate-returns-in_default : goal.evaluate-returns-in_default
+evaluate-returns-in_default t c =
+    subst (Evaluated _ _ c.run_script-answer.new.marks _) (sym c.in_default.is)
+    (held_evaluated (record { sound = c.requires.sound; is_made = c.in-Made.ensures; is_unseen = c.in-Unseen.is }) c.in_default.ensures)
 
-pub run-script-loop-value-init : goal.run-script-loop-value-init
-run-script-loop-value-init t c = running_start _ _ c.new-registers.ensures c.requires.sound
+pub run_script-loop-value-init : goal.run_script-loop-value-init
+run_script-loop-value-init t c = running_start _ _ c.new-registers.ensures c.requires.sound
 
-pub run-script-returns-in-Gives : goal.run-script-returns-in-Gives
-run-script-returns-in-Gives t c = running_ends c.loop-value.invariant _ c.in-Gives.ensures.step
+pub run_script-returns-in-Gives : goal.run_script-returns-in-Gives
+run_script-returns-in-Gives t c = running_ends c.loop-value.invariant _ c.in-Gives.ensures.step
 
-pub run-script-returns-in-default : goal.run-script-returns-in-default
-run-script-returns-in-default t c = running_held c.loop-value.invariant c.in-Asks.ensures.step c.in-default.ensures
+pub run_script-returns-in_default : goal.run_script-returns-in_default
+run_script-returns-in_default t c = running_held c.loop-value.invariant c.in-Asks.ensures.step c.in_default.ensures
 
-pub run-script-loop-value-preserved : goal.run-script-loop-value-preserved
-run-script-loop-value-preserved t c =
+pub run_script-loop-value-preserved : goal.run_script-loop-value-preserved
+run_script-loop-value-preserved t c =
     running_on c.loop-value.invariant c.in-Asks.ensures.step _ _ c.in-Value.ensures (ap (rest (script_in c.args.script.now)) c.answer-registers.ensures)

@@ -7,11 +7,11 @@ use Rattle.clean.proofs.evaluate.+evaluate_run_script.Given as goal
 abbrev pub decreases-evaluate : goal.decreases-evaluate
 decreases-evaluate l = 2 * l.depth
 
-abbrev pub decreases-run-script : goal.decreases-run-script
-decreases-run-script l = 2 * l.depth + 1
+abbrev pub decreases-run_script : goal.decreases-run_script
+decreases-run_script l = 2 * l.depth + 1
 
-abbrev pub invariant-run-script-loop-value : goal.invariant-run-script-loop-value
-invariant-run-script-loop-value l = Running (items_in l.items) (script_in l.script) l.initial.marks l.marks l.registers
+abbrev pub invariant-run_script-loop-value : goal.invariant-run_script-loop-value
+invariant-run_script-loop-value l = Running (items_in l.items) (script_in l.script) l.initial.marks l.marks l.registers
 
-abbrev pub decreases-run-script-loop-value : goal.decreases-run-script-loop-value
-decreases-run-script-loop-value l = length (script_in l.script) - l.registers.next
+abbrev pub decreases-run_script-loop-value : goal.decreases-run_script-loop-value
+decreases-run_script-loop-value l = length (script_in l.script) - l.registers.next

@@ -11,4 +11,4 @@ loop-index-preserved g c =
     let bytes = c.args.bytes.now in
     let index = c.loop-index.index in
     let here = c.tail.ensures ∙ ap (λ n. drop (n * index) bytes) c.size.ensures.0 in
-    chunks_push g.T.Piece.reads g.T.Piece.size index bytes c.loop-index.invariant (c.read.ensures ∙ ap g.T.Piece.reads here) c.in-ok-push.ensures.items
+    chunks_push g.T.Piece.reads g.T.Piece.size index bytes c.loop-index.invariant (c.read.ensures ∙ ap g.T.Piece.reads here) c.in_ok-push.ensures.items

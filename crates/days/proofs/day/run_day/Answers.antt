@@ -5,10 +5,10 @@ use Rattle.days.proofs.day.run_day.Goals as goal
 
 pub returns : goal.returns
 returns c =
-    whole_if c.args.size (map deed_of c.args.commands.now) c.perform-all.result _ _ _ _ _ _
+    whole_if c.args.size (map deed_of c.args.commands.now) c.perform_all.result _ _ _ _ _ _
     (record {
-      desks_new = c.as-mut-slice.ensures.value ∙ c.in-ok-desks.ensures;
-      store_new = c.as-mut-slice-2.ensures.value ∙ c.in-ok-rows.ensures;
-      list_new = c.as-mut-slice-3.ensures.value ∙ c.in-ok-ran.ensures;
+      desks_new = c.as_mut_slice.ensures.value ∙ c.in_ok-desks.ensures;
+      store_new = c.as_mut_slice-2.ensures.value ∙ c.in_ok-rows.ensures;
+      list_new = c.as_mut_slice-3.ensures.value ∙ c.in_ok-ran.ensures;
     })
-    c.perform-all.ensures
+    c.perform_all.ensures

@@ -7,6 +7,6 @@ use Rattle.entry.proofs.asking.asking_count.Goals as goal
 
 pub returns : goal.returns
 returns c = record {
-  value = c.min.ensures ∙ ap (λ n. min n max_askings) c.number-after-count.ensures ∙ sym (count_in first_asking asking_size max_askings c.args.askings.now);
+  value = c.min.ensures ∙ ap (λ n. min n max_askings) c.number_after-count.ensures ∙ sym (count_in first_asking asking_size max_askings c.args.askings.now);
   bound = omega arith;
 }

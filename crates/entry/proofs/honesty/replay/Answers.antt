@@ -9,5 +9,5 @@ use Rattle.entry.proofs.honesty.replay.Goals as goal
 pub returns : goal.returns
 returns c =
     let row = c.args.entry.now in
-    let place = c.replay-parts.ensures ∙ (λ i. differs 0 (task_of (script_in row)) (askings_in (c.tail.ensures i)) (c.number-after.ensures i)) in
-    record { place = place; exactly = decided (entry_in row) c.replay-parts.result place }
+    let place = c.replay_parts.ensures ∙ (λ i. differs 0 (task_of (script_in row)) (askings_in (c.tail.ensures i)) (c.number_after.ensures i)) in
+    record { place = place; exactly = decided (entry_in row) c.replay_parts.result place }

@@ -8,5 +8,5 @@ use Rattle.entry.proofs.parts.write_asked.Goals as goal
 
 pub returns : goal.returns
 returns c =
-    ended asking_out asking_size length_asking c.args.askings.now max_askings _ c.args.row.now _ c.write-each-asked.new.row refl c.requires.few c.requires.long c.put-all.ensures (omega arith)
-    c.write-each-asked.ensures c.clear-from.ensures
+    ended asking_out asking_size length_asking c.args.askings.now max_askings _ c.args.row.now _ c.write_each_asked.new.row refl c.requires.few c.requires.long c.put_all.ensures (omega arith)
+    c.write_each_asked.ensures c.clear_from.ensures

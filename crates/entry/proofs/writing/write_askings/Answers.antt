@@ -8,5 +8,5 @@ use Rattle.entry.proofs.writing.write_askings.Goals as goal
 
 pub returns : goal.returns
 returns c =
-    ended asking_out asking_size length_asking (askings_in c.args.askings.now) max_askings _ c.args.row.now _ c.write-each.new.row
-    c.asking-count-count.ensures.value (askings_few c.args.askings.now) c.requires c.put-all.ensures (omega arith) c.write-each.ensures c.clear-from.ensures
+    ended asking_out asking_size length_asking (askings_in c.args.askings.now) max_askings _ c.args.row.now _ c.write_each.new.row
+    c.asking_count-count.ensures.value (askings_few c.args.askings.now) c.requires c.put_all.ensures (omega arith) c.write_each.ensures c.clear_from.ensures

@@ -9,5 +9,5 @@ returns c =
     let row = c.args.desks.now in
     let at = spanned z row c.args.desk c.in-Some.field-0 c.in-Some.ensures in
     let part = cut_out z row c.args.desk _ _ at.1 at.2 in
-    let built = subst (λ items. BuiltSo items c.args.rows.now c.args.ran.now c.args.item c.build-item.result c.build-item.new.rows c.build-item.new.ran) part c.build-item.ensures in
+    let built = subst (λ items. BuiltSo items c.args.rows.now c.args.ran.now c.args.item c.build_item.result c.build_item.new.rows c.build_item.new.ran) part c.build_item.ensures in
     rw at.0 built

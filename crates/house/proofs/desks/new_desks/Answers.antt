@@ -8,6 +8,6 @@ pub loop-desk-preserved : goal.loop-desk-preserved
 loop-desk-preserved c =
     let items = c.args.size.items in
     let desks = replicate c.loop-desk.desk items in (
-      c.in-ok-push-desk.ensures ∙ ap (λ xs. xs ++ new_desk items) c.loop-desk.invariant.0 ∙ flat_map_more (λ n. new_desk n) [] desks items ∙ ap (flat_map (λ n. new_desk n)) (replicate_more c.loop-desk.desk items),
+      c.in_ok-push_desk.ensures ∙ ap (λ xs. xs ++ new_desk items) c.loop-desk.invariant.0 ∙ flat_map_more (λ n. new_desk n) [] desks items ∙ ap (flat_map (λ n. new_desk n)) (replicate_more c.loop-desk.desk items),
       omega arith,
     )

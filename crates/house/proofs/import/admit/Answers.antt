@@ -18,9 +18,9 @@ returns c =
     let lines = c.args.lines.now in
     let e = entry_of lines c.args.askings.now c.args.res in
     let few : length (map counted_as lines) ≤ max_lines = omega (arith, length-map lines counted_as, c.requires.lines) in
-    let written = c.write-from-parts.ensures ∙ cond-true _ _ _ (and_from _ _ refl (and_from _ _ (le-leb _ _ c.requires.lines) (le-leb _ _ c.requires.askings))) in
+    let written = c.write_from_parts.ensures ∙ cond-true _ _ _ (and_from _ _ refl (and_from _ _ (le-leb _ _ c.requires.lines) (le-leb _ _ c.requires.askings))) in
     let same = ap entry_in written ∙ entry_back e (few, c.requires.askings) in
     record {
-      fault = c.admit-entry.ensures.fault ∙ ap (λ x. or_else (option_map NotHonest (difference x)) (add_fault rows)) same;
-      after = c.admit-entry.ensures.after ∙ ap (λ x. cond (is_ok c.admit-entry.result) (added rows x) rows) same;
+      fault = c.admit_entry.ensures.fault ∙ ap (λ x. or_else (option_map NotHonest (difference x)) (add_fault rows)) same;
+      after = c.admit_entry.ensures.after ∙ ap (λ x. cond (is_ok c.admit_entry.result) (added rows x) rows) same;
     }

@@ -9,5 +9,5 @@ pub returns : goal.returns
 returns c =
     let row = c.args.row.now in
     let part : length (take script_size (drop 1 (set row 0 1))) ≡ script_size = simp (length-take, length-drop, length-set) (omega (arith, c.requires.long)) in
-    headed row c.write-source.new.row 1 script_size c.requires.long
-    ∙ ap (λ zs. 1 ∷ zs) (c.write-source.ensures ∙ cond-true _ _ _ (and_from _ _ (eq-eqb _ _ part) (le-leb _ _ c.requires.few)))
+    headed row c.write_source.new.row 1 script_size c.requires.long
+    ∙ ap (λ zs. 1 ∷ zs) (c.write_source.ensures ∙ cond-true _ _ _ (and_from _ _ (eq-eqb _ _ part) (le-leb _ _ c.requires.few)))

@@ -7,4 +7,4 @@ use Rattle.items.proofs.writing.write_value.Goals as goal
 pub returns-in-Some : goal.returns-in-Some
 returns-in-Some c =
     let there = told _ _ _ c.in-Some.ensures in
-    placed c.args.items.now _ c.args.item _ _ (written c.args.value) there.1 (omega arith) c.fill-value.ensures ∙ sym (cond-true _ _ c.args.items.now there.0)
+    placed c.args.items.now _ c.args.item _ _ (written c.args.value) there.1 (omega arith) c.fill_value.ensures ∙ sym (cond-true _ _ c.args.items.now there.0)

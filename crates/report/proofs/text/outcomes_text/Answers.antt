@@ -14,7 +14,7 @@ loop-deed-preserved c =
     let x = c.index-commands-deed.result in
     let o = c.index-outcomes-deed.result in
     one_more (string_bytes c.loop-deed.text) (told_text i (deed_of x) (told_as o)) (still (i + 1) cs os) (tolds_text 0 (map deed_of cs) (map told_as os))
-    (c.in-ok-push-str.ensures.bytes ∙ ap (λ line. string_bytes c.loop-deed.text ++ line) (c.as-str.ensures.value ∙ c.in-ok-line.ensures))
+    (c.in_ok-push_str.ensures.bytes ∙ ap (λ line. string_bytes c.loop-deed.text ++ line) (c.as_str.ensures.value ∙ c.in_ok-line.ensures))
     (one_told i cs os x o c.loop-deed-test.true c.if-deed-outcomes.false c.index-commands-deed.is c.index-outcomes-deed.is)
     c.loop-deed.invariant
 

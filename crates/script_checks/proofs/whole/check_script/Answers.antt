@@ -2,14 +2,14 @@ use Rattle.std.proofs.lemmas.Result.{err_from_is_err_and}
 use Rattle.script_checks.proofs.Faults.{allowed, over, pass, refused, stop}
 use Rattle.script_checks.proofs.whole.check_script.Goals as goal
 
-pub returns-in-err-check-line : goal.returns-in-err-check-line
-returns-in-err-check-line c =
-    let p = err_from_is_err_and c.from-residual.result c.from-residual.ensures.1 in
-    let fault = stop _ _ c.loop-index.invariant _ _ c.loop-index-test.true c.in-err-check-line.ensures.fault in
+pub returns-in_err-check : goal.returns-in_err-check
+returns-in_err-check c =
+    let p = err_from_is_err_and c.from_residual.result c.from_residual.ensures.1 in
+    let fault = stop _ _ c.loop-index.invariant _ _ c.loop-index-test.true c.in_err-check.ensures.fault in
     rw (p.1, p.2) (record { fault = fault; exactly = refused _ _ fault })
 
 pub loop-index-preserved : goal.loop-index-preserved
-loop-index-preserved c = pass _ _ c.loop-index.invariant _ c.loop-index-test.true c.in-ok-check-line.ensures.fault
+loop-index-preserved c = pass _ _ c.loop-index.invariant _ c.loop-index-test.true c.in_ok-check.ensures.fault
 
 pub returns : goal.returns
 returns c =

@@ -16,31 +16,31 @@ read_there : (row : List ℕ) (i : ℕ) (l : SourceLine) → i < length (sources
 read_there row i l inside is =
     is ∙ sym (chunk_at first_source line_size _ (drop 1 row) i l (rw count at inside) ∙ ap first_source (drop-drop (line_size * i) 1 row))
 
-pub returns-then-count-gt-MAX-LINES : goal.returns-then-count-gt-MAX-LINES
-returns-then-count-gt-MAX-LINES c =
-    let fault = too_many (sources_in c.args.script.now) (omega (arith, count c.args.script.now, c.number-after-count.ensures, c.if-count-gt-MAX-LINES.true)) in
+pub returns-then-count-gt-MAX_LINES : goal.returns-then-count-gt-MAX_LINES
+returns-then-count-gt-MAX_LINES c =
+    let fault = too_many (sources_in c.args.script.now) (omega (arith, count c.args.script.now, c.number_after-count.ensures, c.if-count-gt-MAX_LINES.true)) in
     record { fault = fault; exactly = refused _ _ fault }
 
 pub loop-index-init : goal.loop-index-init
-loop-index-init c = record { few = omega (arith, count c.args.script.now, c.number-after-count.ensures); same = refl }
+loop-index-init c = record { few = omega (arith, count c.args.script.now, c.number_after-count.ensures); same = refl }
 
-pub returns-in-err-check-line : goal.returns-in-err-check-line
-returns-in-err-check-line c =
-    let p = err_from_is_err_and c.from-residual.result c.from-residual.ensures.1 in
+pub returns-in_err-check : goal.returns-in_err-check
+returns-in_err-check c =
+    let p = err_from_is_err_and c.from_residual.result c.from_residual.ensures.1 in
     let row = c.args.script.now in
-    let inside : c.loop-index.index < length (sources_in row) = omega (arith, count row, c.number-after-count.ensures) in
-    let here = c.in-err-check-line.ensures.fault ∙ ap (line_fault _) (read_there row _ _ inside c.read-line.ensures) in
+    let inside : c.loop-index.index < length (sources_in row) = omega (arith, count row, c.number_after-count.ensures) in
+    let here = c.in_err-check.ensures.fault ∙ ap (line_fault _) (read_there row _ _ inside c.read-line.ensures) in
     let fault = stop _ _ c.loop-index.invariant _ _ inside here in
     rw (p.1, p.2) (record { fault = fault; exactly = refused _ _ fault })
 
 pub loop-index-preserved : goal.loop-index-preserved
 loop-index-preserved c =
     let row = c.args.script.now in
-    let inside : c.loop-index.index < length (sources_in row) = omega (arith, count row, c.number-after-count.ensures) in
-    pass _ _ c.loop-index.invariant _ inside (c.in-ok-check-line.ensures.fault ∙ ap (line_fault _) (read_there row _ _ inside c.read-line.ensures))
+    let inside : c.loop-index.index < length (sources_in row) = omega (arith, count row, c.number_after-count.ensures) in
+    pass _ _ c.loop-index.invariant _ inside (c.in_ok-check.ensures.fault ∙ ap (line_fault _) (read_there row _ _ inside c.read-line.ensures))
 
 pub returns : goal.returns
 returns c =
-    let past : length (sources_in c.args.script.now) ≤ c.loop-index.index = omega (arith, count c.args.script.now, c.number-after-count.ensures) in
+    let past : length (sources_in c.args.script.now) ≤ c.loop-index.index = omega (arith, count c.args.script.now, c.number_after-count.ensures) in
     let fault = over _ _ c.loop-index.invariant past in
     record { fault = fault; exactly = allowed _ fault }

@@ -20,20 +20,20 @@ at_same xs ys i d h same =
     let k : i < length (script_in ys) = rw same at h in
     sym (script_at xs i d h) ∙ ap (λ s. get_or s i d) same ∙ script_at ys i d k
 
-pub returns-then-not-same-line : goal.returns-then-not-same-line
-returns-then-not-same-line c =
-    let inside : c.loop-index.index < length (script_in c.args.left.now) = omega (arith, c.line-count-count.ensures.value) in
-    (λ no_way. absurd (false≢true no_way), λ same. c.if-not-same-line.ensures.1 (at_same c.args.left.now c.args.right.now _ no_line inside same))
+pub returns-then-not-same_line : goal.returns-then-not-same_line
+returns-then-not-same_line c =
+    let inside : c.loop-index.index < length (script_in c.args.left.now) = omega (arith, c.line_count-count.ensures.value) in
+    (λ no_way. absurd (false≢true no_way), λ same. c.if-not-same_line.ensures.1 (at_same c.args.left.now c.args.right.now _ no_line inside same))
 
 pub loop-index-preserved : goal.loop-index-preserved
 loop-index-preserved c =
-    let inside : c.loop-index.index < length (script_in c.args.left.now) = omega (arith, c.line-count-count.ensures.value) in
-    let across : c.loop-index.index < length (script_in c.args.right.now) = omega (arith, c.line-count.ensures.value, c.if-count-line-count.false) in
-    let same = same_at c.args.left.now c.args.right.now _ no_line inside across (c.if-not-same-line.ensures.0 refl) in
+    let inside : c.loop-index.index < length (script_in c.args.left.now) = omega (arith, c.line_count-count.ensures.value) in
+    let across : c.loop-index.index < length (script_in c.args.right.now) = omega (arith, c.line_count.ensures.value, c.if-count-line_count.false) in
+    let same = same_at c.args.left.now c.args.right.now _ no_line inside across (c.if-not-same_line.ensures.0 refl) in
     take_more_same _ _ _ no_line inside across c.loop-index.invariant same
 
 pub returns : goal.returns
 returns c =
-    let left : length (script_in c.args.left.now) ≤ c.loop-index.index = omega (arith, c.line-count-count.ensures.value) in
-    let right : length (script_in c.args.right.now) ≤ c.loop-index.index = omega (arith, c.line-count.ensures.value, c.if-count-line-count.false) in
+    let left : length (script_in c.args.left.now) ≤ c.loop-index.index = omega (arith, c.line_count-count.ensures.value) in
+    let right : length (script_in c.args.right.now) ≤ c.loop-index.index = omega (arith, c.line_count.ensures.value, c.if-count-line_count.false) in
     (λ _. sym (take_all _ _ left) ∙ c.loop-index.invariant ∙ take_all _ _ right, λ _. refl)

@@ -5,6 +5,6 @@ use Rattle.script_rows.proofs.reading.line_count.Goals as goal
 
 pub returns : goal.returns
 returns c = record {
-  value = c.min.ensures ∙ ap (λ n. min n max_lines) c.number-after-count.ensures ∙ sym (length_script c.args.script.now);
+  value = c.min.ensures ∙ ap (λ n. min n max_lines) c.number_after-count.ensures ∙ sym (length_script c.args.script.now);
   bound = omega arith;
 }

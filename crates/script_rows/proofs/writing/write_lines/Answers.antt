@@ -8,11 +8,11 @@ use Rattle.script_rows.proofs.writing.write_lines.Goals as goal
 pub loop-index-preserved : goal.loop-index-preserved
 loop-index-preserved c =
     let row = c.args.script.now in
-    let inside : c.loop-index.index < length (script_in row) = omega (arith, c.line-count-index-end.ensures.value) in
+    let inside : c.loop-index.index < length (script_in row) = omega (arith, c.line_count-index-end.ensures.value) in
     let room : 1 + line_size * length (script_in row) ≤ length c.args.row.now = omega (arith, script_short row) in
     let here = script_at row c.loop-index.index c.read.result inside ∙ sym c.read.ensures in
     begun_more line_out line_size length_line _ _ _ c.read.result inside room here c.write.ensures.after c.loop-index.invariant
 
 pub returns : goal.returns
 returns c =
-    begun_end line_out line_size length_line _ _ _ (omega (arith, c.line-count-index-end.ensures.value, c.loop-index.auto.index-end)) c.loop-index.invariant
+    begun_end line_out line_size length_line _ _ _ (omega (arith, c.line_count-index-end.ensures.value, c.loop-index.auto.index-end)) c.loop-index.invariant

@@ -9,6 +9,6 @@ use Rattle.script_rows.proofs.writing.write_script.Goals as goal
 pub returns : goal.returns
 returns c =
     let row = c.args.row.now in
-    ended line_out line_size length_line (script_in c.args.script.now) max_lines _ row _ c.write-lines.new.row
-    c.line-count-count.ensures.value (script_short c.args.script.now) c.if-row-ne-SCRIPT-SIZE.false c.put-all.ensures (omega arith) c.write-lines.ensures c.clear-from.ensures
-    ∙ sym (cond-true _ _ _ (eq-eqb (length row) script_size c.if-row-ne-SCRIPT-SIZE.false))
+    ended line_out line_size length_line (script_in c.args.script.now) max_lines _ row _ c.write_lines.new.row
+    c.line_count-count.ensures.value (script_short c.args.script.now) c.if-row-ne-SCRIPT_SIZE.false c.put_all.ensures (omega arith) c.write_lines.ensures c.clear_from.ensures
+    ∙ sym (cond-true _ _ _ (eq-eqb (length row) script_size c.if-row-ne-SCRIPT_SIZE.false))

@@ -12,5 +12,5 @@ returns c =
     let lines = c.args.lines.now in
     let many = length-map lines counted_as in
     let few : length (map counted_as lines) ≤ max_lines = omega (arith, c.requires.few) in
-    ended line_out line_size length_line (map counted_as lines) max_lines (length lines) c.args.row.now _ c.write-source-lines.new.row (sym many) few c.requires.long c.put-all.ensures (omega arith)
-    c.write-source-lines.ensures c.clear-from.ensures
+    ended line_out line_size length_line (map counted_as lines) max_lines (length lines) c.args.row.now _ c.write_source_lines.new.row (sym many) few c.requires.long c.put_all.ensures (omega arith)
+    c.write_source_lines.ensures c.clear_from.ensures

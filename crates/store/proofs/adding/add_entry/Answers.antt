@@ -5,9 +5,9 @@ use Rattle.std.proofs.Common.{sym, ◌∙◌}
 
 pub returns : goal.returns
 returns c =
-    let told = c.add-checked.ensures in
+    let told = c.add_checked.ensures in
     record {
       fault = told.fault;
       after = told.after;
-      grown = grows c.args.rows.now c.add-checked.result _ (fitting c.args.script.now c.args.askings.now c.args.res) (λ fine. sym told.fault ∙ fine) told.after;
+      grown = grows c.args.rows.now c.add_checked.result _ (fitting c.args.script.now c.args.askings.now c.args.res) (λ fine. sym told.fault ∙ fine) told.after;
     }

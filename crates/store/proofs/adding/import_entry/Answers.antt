@@ -7,10 +7,10 @@ use Rattle.store.proofs.adding.import_entry.Goals as goal
 
 pub returns : goal.returns
 returns c =
-    let told = c.import-checked.ensures in
+    let told = c.import_checked.ensures in
     let entry = c.args.entry.now in
     record {
       fault = told.fault;
       after = told.after;
-      grown = grows c.args.rows.now c.import-checked.result _ (fitting entry (drop script_size entry) (get_or entry result_at 0)) (λ fine. second_none _ _ (sym told.fault ∙ fine)) told.after;
+      grown = grows c.args.rows.now c.import_checked.result _ (fitting entry (drop script_size entry) (get_or entry result_at 0)) (λ fine. second_none _ _ (sym told.fault ∙ fine)) told.after;
     }

@@ -7,5 +7,5 @@ use Rattle.store.proofs.reading.entry_of.Goals as goal
 pub returns : goal.returns
 returns c =
     let rows = c.args.rows.now in
-    let at : c.saturating-add.result ≡ min (entry_at c.args.index) (2 ^ 64 - 1) = omega (arith, c.saturating-mul.ensures, c.saturating-add.ensures) in
+    let at : c.saturating_add.result ≡ min (entry_at c.args.index) (2 ^ 64 - 1) = omega (arith, c.saturating_mul.ensures, c.saturating_add.ensures) in
     c.tail.ensures ∙ ap (λ n. drop n rows) at ∙ drop_min (entry_at c.args.index) (2 ^ 64 - 1) rows (omega arith)

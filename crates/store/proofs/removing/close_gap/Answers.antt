@@ -31,7 +31,7 @@ returns c =
     let d = c.args.rows.now in
     let n = c.args.count in
     let k = entry_at (n - 1) + entry_size - entry_at (n - 1) in
-    let row = c.move-up.new.rows in
+    let row = c.move_up.new.rows in
     let part : length (take k (drop (entry_at (n - 1)) row)) ≡ entry_size = simp (length-take, length-drop) (omega (arith, c.requires.long, c.requires.inside)) in
-    closed d c.args.index n c.requires.inside c.requires.counts c.requires.long row c.fill.new.self k c.move-up.ensures (omega arith)
+    closed d c.args.index n c.requires.inside c.requires.counts c.requires.long row c.fill.new.self k c.move_up.ensures (omega arith)
     (c.fill.ensures.after (λ y e. e) ∙ ap (λ m. replicate m 0) part)

@@ -3,5 +3,5 @@ use Rattle.store.proofs.removing.remove_entry.Goals as goal
 
 pub returns : goal.returns
 returns c =
-    let told = c.remove-checked.ensures in
-    record { fault = told.fault; after = told.after; shrunk = shrinks c.args.rows.now c.remove-checked.result _ told.fault told.after }
+    let told = c.remove_checked.ensures in
+    record { fault = told.fault; after = told.after; shrunk = shrinks c.args.rows.now c.remove_checked.result _ told.fault told.after }

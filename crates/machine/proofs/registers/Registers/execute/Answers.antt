@@ -5,6 +5,6 @@ use Rattle.machine.proofs.registers.Registers.execute.Goals as goal
 
 pub returns : goal.returns
 returns c = record {
-  value = c.effect-of.ensures;
-  step = λ s short h here. step s c.args.self short c.args.line h here ∙ ap (resumed s) (sym c.effect-of.ensures);
+  value = c.effect_of.ensures;
+  step = λ s short h here. step s c.args.self short c.args.line h here ∙ ap (resumed s) (sym c.effect_of.ensures);
 }

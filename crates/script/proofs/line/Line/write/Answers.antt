@@ -6,5 +6,5 @@ use Rattle.script.proofs.line.Line.write.Goals as goal
 
 pub returns : goal.returns
 returns c =
-    let after = c.put-all.ensures ∙ ap (written_at _ _) c.numbers.ensures.value in
+    let after = c.put_all.ensures ∙ ap (written_at _ _) c.numbers.ensures.value in
     record { after = after; reads_back = λ fits. ap (λ row. line_at row c.args.at) after ∙ line_written _ _ _ fits }

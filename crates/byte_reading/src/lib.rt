@@ -1,6 +1,7 @@
 // Total reading of bytes: one that is not there reads as 0.
 #![tactic(auto)]
-ghost use Rattle.bytes.specs.Bytes.{low_first};
+
+ghost use Rattle.byte_reading.specs.Bytes.{low_first};
 ghost use Rattle.std.specs.Prelude.{◌≡◌, slice_index};
 
 pub fn byte_at(bytes: &[u8], at: usize) -> u8
