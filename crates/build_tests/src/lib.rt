@@ -1,5 +1,6 @@
 // Tests of builds: the worked day, what is remembered, long and wide desks, rings, and stores from elsewhere.
 #![tactic(auto)]
+
 #[cfg(test)]
 mod desk;
 #[cfg(test)]

@@ -1,5 +1,6 @@
 // Says of each entry of a store from elsewhere what importing it would say.
 #![tactic(auto)]
+
 use anyhow::anyhow;
 use script::Refusal;
 use std::{env, fs};

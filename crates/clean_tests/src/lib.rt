@@ -1,5 +1,6 @@
 // Tests of the clean build on desks whose answers come from the rules.
 #![tactic(auto)]
+
 #[cfg(test)]
 mod chains;
 #[cfg(test)]

@@ -1,5 +1,6 @@
 // Performs days of commands from files, and prints what came of them.
 #![tactic(auto)]
+
 use anyhow::anyhow;
 use report::day_text;
 use std::{env, fs};

@@ -1,19 +1,17 @@
 -- A house in its rows refuses as the house itself does. Assumes nothing.
-use Rattle.std.proofs.Common.{◌≡◌, ℕ, ◌<◌, ◌≤◌, Bool, true, false, cond, ◌&&◌, ltb, List, [], length, get_or, drop, Some, None, Option, sym, refl, ap, ◌∙◌, ⊎_elim, arith}
+use Rattle.std.proofs.Common.{◌≡◌, ℕ, ◌<◌, ◌≤◌, true, false, cond, ltb, List, length, drop, Some, None, sym, ap, ◌∙◌, ⊎_elim, arith}
 use Rattle.std.proofs.lemmas.Bool.{cases_lt, cond-false, cond-true, le-ltb, lt-ltb}
 use Rattle.std.proofs.lemmas.Bool.Decides.{nat_tests}
 use Rattle.rows.proofs.Chunks.{length_chunks}
-use Rattle.script.specs.declared.refusal.Refusal.{Refusal}
-use Rattle.script.specs.declared.refusal.Refusal.TheVariants.{NoSuchDesk, NoSuchItem, StoreFull, StoreOverfull, StoreTooShort}
+use Rattle.script.specs.declared.refusal.Refusal.TheVariants.{NoSuchItem, StoreFull, StoreOverfull, StoreTooShort}
 use Rattle.entry.specs.Layout.{entry_size}
 use Rattle.entry.specs.Rows.{entry_in}
 use Rattle.store.specs.Faults as rows
 use Rattle.store.specs.Rows.{count_of, entries_in, entry_at, room_of}
 use Rattle.house.specs.DeskFaults.{desk_fault}
-use Rattle.house.specs.Desks.{desk_in, desk_size, has_desk}
+use Rattle.house.specs.Desks.{desk_size, has_desk}
 use Rattle.house.specs.declared.size.HouseSize.{HouseSize}
 use Rattle.days.specs.Faults.{full_fault, place_fault, store_fault}
-use Rattle.days.specs.House.{House, desk}
 use Rattle.days.specs.Rows.{Shaped, desk_at, desks_in, house_of}
 use Rattle.days.proofs.Shape.{desk_here, desk_there, item_there}
 

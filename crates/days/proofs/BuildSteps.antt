@@ -1,31 +1,29 @@
 -- A build that is performed in the rows goes as it goes in the house. Assumes nothing.
-use Rattle.std.proofs.Common.{◌≡◌, ℕ, ◌+◌, ◌<◌, ◌≤◌, Bool, true, false, cond, ltb, List, [], ◌∷◌, ◌++◌, length, get_or, take, drop, Some, None, Option, sym, refl, ap, ◌∙◌, subst, ⊎_elim, arith}
+use Rattle.std.proofs.Common.{◌≡◌, ℕ, ◌+◌, ◌<◌, ◌≤◌, Bool, true, false, cond, ltb, List, [], ◌∷◌, length, drop, Some, None, Option, sym, refl, ap, ◌∙◌, subst, ⊎_elim, arith}
 use Rattle.std.proofs.lemmas.List.{length-append, length-drop, take_at}
 use Rattle.std.proofs.lemmas.Bool.{cases_lt, cond-false, cond-true, le-ltb, lt-ltb}
 use Rattle.std.proofs.lemmas.Bool.Decides.{nat_tests}
 use Rattle.script.specs.Allowed.{or_else}
 use Rattle.script.specs.declared.refusal.Refusal.{Refusal}
 use Rattle.script.specs.declared.refusal.Refusal.TheVariants.{ListTooShort, NoSuchDesk, NoSuchItem}
-use Rattle.entry.specs.Entry.{AllHonest, Entry}
+use Rattle.entry.specs.Entry.{AllHonest}
 use Rattle.store.specs.Faults as in_store
 use Rattle.store.specs.Rows.{entries_in, room_of}
 use Rattle.store.proofs.Grows.{second_none}
-use Rattle.items.specs.Rows.{items_in}
-use Rattle.theory.specs.Build.{Built, In, Rising, here, more, none, one, there}
+use Rattle.theory.specs.Build.{Built, In, Rising, here, more, there}
 use Rattle.theory.specs.Clean.{Out, ring, value}
-use Rattle.build.specs.Build.{BuiltSo, ByFault, Listed, WentSo, says}
+use Rattle.build.specs.Build.{ByFault, WentSo, says}
 use Rattle.build.specs.Faults as at_desk
 use Rattle.build.specs.Leaves.{told}
-use Rattle.house.specs.Deeds.{Deed, build}
-use Rattle.house.specs.Desks.{desk_in, desk_part, has_desk}
-use Rattle.house.specs.Performed.{BuiltAt, DeskBuilt, told_of}
+use Rattle.house.specs.Deeds.{build}
+use Rattle.house.specs.Desks.{desk_in, desk_part}
+use Rattle.house.specs.Performed.{DeskBuilt, told_of}
 use Rattle.house.specs.declared.perform.Told as perform
 use Rattle.house.specs.declared.size.HouseSize.{HouseSize}
 use Rattle.build.specs.declared.building.Answer.{Answer}
-use Rattle.build.specs.declared.building.Answer.TheVariants as answer
 use Rattle.days.specs.Faults.{deed_fault, list_fault, place_fault, store_fault}
-use Rattle.days.specs.Goes.{Goes, Told, builds, built, refused, refuses}
-use Rattle.days.specs.House.{House, desk, with_store}
+use Rattle.days.specs.Goes.{Goes, builds, built, refuses}
+use Rattle.days.specs.House.{desk}
 use Rattle.days.specs.Rows.{Shaped, desks_in, house_of, list_in, told_in}
 use Rattle.days.proofs.Alike.{desks_many, no_desk, store_alike}
 use Rattle.days.proofs.Shape.{desk_here, desk_there}

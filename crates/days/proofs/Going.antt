@@ -1,5 +1,5 @@
 -- Every command and every day has just one outcome. Assumes nothing.
-use Rattle.std.proofs.Common.{◌≡◌, ℕ, List, [], ◌∷◌, Some, None, Option, sym, refl, ap, ◌∙◌, subst, arith}
+use Rattle.std.proofs.Common.{◌≡◌, List, [], ◌∷◌, Some, None, Option, sym, refl, ap, subst, arith}
 use Rattle.script.specs.declared.refusal.Refusal.{Refusal}
 use Rattle.theory.specs.Reference.{built_of}
 use Rattle.theory.proofs.Builds.{build_one}

@@ -1,5 +1,5 @@
 -- The store under every command: its entries stay honest, and it holds no more than it has room for. Assumes nothing.
-use Rattle.std.proofs.Common.{◌≡◌, ℕ, ◌+◌, ◌<◌, ◌≤◌, List, [], ◌∷◌, ◌++◌, length, take, drop, None, Ok, Option, sym, refl, ap, ◌∙◌, subst, arith}
+use Rattle.std.proofs.Common.{◌≡◌, ℕ, ◌+◌, ◌<◌, ◌≤◌, List, [], ◌∷◌, length, take, drop, None, Ok, Option, sym, refl, arith}
 use Rattle.std.specs.Option.{option_map}
 use Rattle.std.specs.List.{AllByRecursion as All}
 use Rattle.std.proofs.ByRecursion.{All-append, All-drop, All-from_get_or, All-get_or, All-take}
@@ -15,13 +15,12 @@ use Rattle.entry.specs.Replay.{difference}
 use Rattle.entry.specs.Rows.{entry_of}
 use Rattle.entry.specs.declared.asking.Asking.{Asking}
 use Rattle.entry.proofs.Replays.{decided}
-use Rattle.store.specs.Rows.{without}
 use Rattle.store.proofs.Grows.{second_none}
 use Rattle.theory.proofs.Builds.{build_honest, build_within}
 use Rattle.house.specs.Deeds.{Deed}
 use Rattle.house.specs.Faults.{askings_fault}
-use Rattle.days.specs.Faults.{bring_fault, deed_fault, full_fault}
-use Rattle.days.specs.Goes.{Day, Goes, Told, brings, builds, forgets, gives, next, over, refuses, writes}
+use Rattle.days.specs.Faults.{bring_fault, full_fault}
+use Rattle.days.specs.Goes.{Goes, Told, brings, builds, forgets, gives, refuses, writes}
 use Rattle.days.specs.House.{House}
 
 pub first_none : (x y : Option Refusal) → or_else x y ≡ None → x ≡ None

@@ -1,9 +1,8 @@
 -- The promise over every day: at each moment the store is kept well, and each build answers as its desk would alone. Assumes nothing.
-use Rattle.std.proofs.Common.{◌≡◌, ℕ, suc, ◌+◌, ◌<◌, ◌≤◌, cond, ltb, List, [], ◌∷◌, ◌++◌, length, get_or, set, Some, None, Option, sym, refl, ap, ◌∙◌, subst, arith}
+use Rattle.std.proofs.Common.{◌≡◌, ℕ, suc, ◌+◌, ◌<◌, ◌≤◌, cond, ltb, List, [], ◌∷◌, ◌++◌, length, get_or, Some, None, sym, refl, ap, ◌∙◌, subst, arith}
 use Rattle.std.proofs.lemmas.List.{get_or_at, length-set}
 use Rattle.std.proofs.lemmas.Bool.{cond-false, cond-true, le-ltb, lt-ltb}
 use Rattle.script.specs.Allowed.{or_else}
-use Rattle.script.specs.declared.refusal.Refusal.{Refusal}
 use Rattle.script.specs.declared.refusal.Refusal.TheVariants.{ListTooShort, NoSuchItem, StoreTooShort}
 use Rattle.entry.specs.Entry.{AllHonest}
 use Rattle.store.specs.Rows.{entry_at}
@@ -14,7 +13,6 @@ use Rattle.days.specs.Faults.{deed_fault, list_fault, place_fault, store_fault}
 use Rattle.days.specs.Goes.{Day, Goes, Told, brings, builds, built, fine, forgets, gives, next, over, refused, refuses, writes}
 use Rattle.days.specs.House.{House, alone, desk}
 use Rattle.days.specs.Laws.{KeptWell, RightBuild, answer_only}
-use Rattle.days.specs.Own.{own}
 use Rattle.days.proofs.Apart.{day_own}
 use Rattle.days.proofs.Going.{not_both, same_refusal}
 use Rattle.days.proofs.Kept.{goes_honest, goes_within}

@@ -1,10 +1,9 @@
 -- The row of all desks: what is at each desk, and that its shape stays when a desk is written anew. Assumes nothing.
-use Rattle.std.proofs.Common.{◌≡◌, ℕ, zero, suc, ◌+◌, ◌-◌, ◌*◌, ◌<◌, ◌≤◌, min, true, cond, ltb, leb, List, [], ◌∷◌, ◌++◌, length, get_or, take, drop, set, replicate, sym, refl, ap, ◌∙◌, ⊎_elim, mul-le-mul_left, mul-suc, add-one, arith}
+use Rattle.std.proofs.Common.{◌≡◌, ℕ, ◌+◌, ◌*◌, ◌<◌, ◌≤◌, min, true, ltb, List, [], ◌++◌, length, get_or, take, drop, set, replicate, sym, ap, ◌∙◌, ⊎_elim, mul-le-mul_left, mul-suc, add-one, arith}
 use Rattle.std.proofs.lemmas.List.{get_or-replicate, get_or-take, length-append, length-drop, length-take-le, set-get_or, take_all, take-take}
-use Rattle.std.proofs.lemmas.Bool.{cases_lt, le-ltb, lt-ltb}
+use Rattle.std.proofs.lemmas.Bool.{cases_lt}
 use Rattle.std.proofs.lemmas.Bool.Decides.{nat_tests}
-use Rattle.rows.specs.Rows.{chunks}
-use Rattle.rows.proofs.Chunks.{chunk_at, length_chunks}
+use Rattle.rows.proofs.Chunks.{chunk_at}
 use Rattle.rows.proofs.Counted.{count_in}
 use Rattle.rows.proofs.Over.{chunks_over}
 use Rattle.items.specs.Rows.{FittingItem, first_item, has_item, item_at, item_size, items_in, max_items, rewritten}

@@ -1,19 +1,17 @@
 -- The rows of a new house: every item is written with 0, and the store holds nothing. Assumes nothing.
-use Rattle.std.proofs.Common.{◌≡◌, ℕ, zero, suc, ◌+◌, ◌-◌, ◌*◌, min, cond, eqb, List, [], ◌∷◌, ◌++◌, length, get_or, take, drop, replicate, sym, refl, ap, ◌∙◌, mul-zero, mul-suc, arith}
+use Rattle.std.proofs.Common.{◌≡◌, ℕ, zero, suc, ◌+◌, ◌-◌, ◌*◌, List, ◌∷◌, ◌++◌, length, take, replicate, sym, refl, ap, ◌∙◌, mul-zero, mul-suc, arith}
 use Rattle.std.specs.List.{flat_map}
 use Rattle.std.proofs.lemmas.List.{drop_at, drop-replicate, length-append, length-replicate, take_all, take_at}
 use Rattle.rows.specs.Rows.{chunks}
 use Rattle.rows.proofs.Chunks.{chunks_none}
-use Rattle.script.specs.Rows.{script_in}
-use Rattle.entry.specs.Entry.{Entry}
 use Rattle.entry.specs.Layout.{entry_size}
 use Rattle.entry.specs.Rows.{entry_in}
-use Rattle.store.specs.Rows.{entries_in, entry_at}
-use Rattle.items.specs.Rows.{first_item, item_size, items_in, max_items}
-use Rattle.theory.specs.Items.{Item, made, written}
+use Rattle.store.specs.Rows.{entry_at}
+use Rattle.items.specs.Rows.{first_item, item_size, items_in}
+use Rattle.theory.specs.Items.{written}
 use Rattle.house.specs.Desks.{desk_size, new_desk, new_desks}
 use Rattle.house.specs.declared.size.HouseSize.{HouseSize}
-use Rattle.days.specs.House.{House, items_at, new_house}
+use Rattle.days.specs.House.{items_at, new_house}
 use Rattle.days.specs.Rows.{Shaped, count_at, desk_at, desks_in, house_of}
 use Rattle.days.proofs.Shape.{count_local, desk_local}
 

@@ -1,5 +1,5 @@
 -- A command that is performed in the rows goes as it goes in the house. Assumes nothing.
-use Rattle.std.proofs.Common.{◌≡◌, ℕ, ◌+◌, ◌<◌, ◌≤◌, true, false, cond, ltb, List, [], ◌∷◌, ◌++◌, map, length, get_or, Some, None, Option, sym, refl, ap, ◌∙◌, subst, ⊎_elim, arith}
+use Rattle.std.proofs.Common.{◌≡◌, ℕ, ◌<◌, ◌≤◌, cond, ltb, List, map, length, Some, None, Option, sym, refl, ap, ◌∙◌, subst, arith}
 use Rattle.std.specs.Option.{option_map}
 use Rattle.std.proofs.lemmas.List.{length-map}
 use Rattle.std.proofs.lemmas.Bool.Decides.{nat_tests}
@@ -18,7 +18,7 @@ use Rattle.store.specs.Rows.{added, entries_in, removed, room_of}
 use Rattle.store.proofs.Grows.{grown, grown_long, second_none, shrunk, shrunk_long}
 use Rattle.items.specs.Rows.{FittingItem, rewritten}
 use Rattle.theory.specs.Items.{Item, made, written}
-use Rattle.house.specs.Deeds.{Deed, bring, build, forget, give, write}
+use Rattle.house.specs.Deeds.{Deed, bring, forget, give, write}
 use Rattle.house.specs.DeskFaults.{desk_fault, script_at_fault}
 use Rattle.house.specs.Desks.{desk_in, desk_part, with_desk}
 use Rattle.house.specs.Faults.{askings_fault, bring_fault}
@@ -27,7 +27,7 @@ use Rattle.house.specs.declared.perform.Told as perform
 use Rattle.house.specs.declared.size.HouseSize.{HouseSize}
 use Rattle.days.specs.Faults.{deed_fault, full_fault, place_fault, store_fault}
 use Rattle.days.specs.Goes.{Goes, brings, fine, forgets, gives, refuses, writes}
-use Rattle.days.specs.House.{House, desk, edited, with_store}
+use Rattle.days.specs.House.{desk, edited, with_store}
 use Rattle.days.specs.Rows.{Shaped, desks_in, house_of, told_in}
 use Rattle.days.proofs.Alike.{desks_many, full_alike, kept_many, place_alike, store_alike}
 use Rattle.days.proofs.Kept.{first_none}

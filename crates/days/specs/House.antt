@@ -1,5 +1,5 @@
 -- A house apart from where it lies in memory: its desks, the store, and how much room is lent. Assumes nothing: these are definitions.
-use Rattle.std.specs.Prelude.{ℕ, ◌+◌, min, List, [], ◌∷◌, length, replicate, slice_index_or, slice_set}
+use Rattle.std.specs.Prelude.{ℕ, ◌+◌, min, List, [], ◌∷◌, replicate, slice_index_or, slice_set}
 use Rattle.entry.specs.Entry.{Entry}
 use Rattle.items.specs.Rows.{max_items}
 use Rattle.store.specs.Rows.{entry_at}

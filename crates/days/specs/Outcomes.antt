@@ -1,5 +1,5 @@
 -- What the list function promises: of the outcomes that it hands back, of the rows that are lent, and of a whole day. Assumes nothing: these are definitions.
-use Rattle.std.specs.Prelude.{◌≡◌, ℕ, ◌+◌, List, map, take, Ok, Err, vec_items, Result, Vec}
+use Rattle.std.specs.Prelude.{ℕ, List, map, take, Ok, Err, vec_items, Result, Vec}
 use Rattle.std.specs.declared.alloc.AllocError.{AllocError}
 use Rattle.std.specs.declared.alloc.Global.{Global}
 use Rattle.entry.specs.Entry.{AllHonest}
@@ -8,7 +8,7 @@ use Rattle.theory.specs.Clean.{ring, value}
 use Rattle.house.specs.Deeds.{Deed}
 use Rattle.house.specs.declared.size.HouseSize.{HouseSize}
 use Rattle.days.specs.Goes.{Day, Told, built, fine, refused}
-use Rattle.days.specs.House.{House, new_house}
+use Rattle.days.specs.House.{House}
 use Rattle.days.specs.Laws.{EverHonest, NeverStale}
 use Rattle.days.specs.Rows.{RowDay, Shaped, house_of}
 use Rattle.days.specs.declared.outcome.Outcome.{Outcome}

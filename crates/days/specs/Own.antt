@@ -1,5 +1,5 @@
 -- What stands at a desk, worked out from its own edits alone. Assumes nothing: these are definitions.
-use Rattle.std.specs.Prelude.{ℕ, cond, List, [], ◌∷◌, map, set, Some, None, Option, ◌==◌, slice_set}
+use Rattle.std.specs.Prelude.{ℕ, cond, List, [], ◌∷◌, map, Some, None, Option, ◌==◌, slice_set}
 use Rattle.script.specs.Allowed.{counted_as, script_fault}
 use Rattle.script.specs.declared.refusal.Refusal.{Refusal}
 use Rattle.theory.specs.Items.{Item, made, written}

@@ -1,8 +1,8 @@
 -- Laws of askings and entries in their rows. Assumes nothing.
-use Rattle.std.proofs.Common.{◌≡◌, ℕ, ◌+◌, ◌*◌, ◌<◌, ◌≤◌, List, [], ◌∷◌, ◌++◌, length, get_or, take, drop, sym, refl, ap, ◌∙◌, arith}
+use Rattle.std.proofs.Common.{◌≡◌, ℕ, ◌+◌, ◌*◌, ◌<◌, ◌≤◌, List, ◌++◌, length, get_or, take, drop, sym, refl, ◌∙◌, arith}
 use Rattle.std.proofs.lemmas.List.{get_or-take}
 use Rattle.rows.proofs.Counted.{count_in, counted_at, counted_back, counted_take, length_counted}
-use Rattle.script.specs.Layout.{max_askings, script_size}
+use Rattle.script.specs.Layout.{max_askings}
 use Rattle.entry.specs.Layout.{asking_size, askings_size}
 use Rattle.entry.specs.Rows.{asking_out, askings_in, askings_out, first_asking}
 use Rattle.entry.specs.declared.asking.Asking.{Asking}

@@ -1,8 +1,8 @@
 -- An entry that is written into its row is read back, and a row that is in form is written again as it was. Assumes nothing.
-use Rattle.std.proofs.Common.{◌≡◌, ℕ, ◌+◌, ◌≤◌, List, [], ◌∷◌, ◌++◌, length, get_or, take, drop, sym, refl, ap, ◌∙◌, subst, arith}
+use Rattle.std.proofs.Common.{◌≡◌, ℕ, ◌+◌, List, [], ◌∷◌, ◌++◌, length, get_or, take, drop, sym, refl, ap, ◌∙◌, arith}
 use Rattle.std.proofs.lemmas.List.{append_assoc, drop_at, drop-take, get_or_at, get_or-take, length-append, take_at}
 use Rattle.script.specs.Layout.{script_size}
-use Rattle.script.specs.Rows.{script_in, script_out}
+use Rattle.script.specs.Rows.{script_out}
 use Rattle.script.specs.Rule.{Value}
 use Rattle.script.proofs.Lines.{length_script_out, script_back, script_short, script_take}
 use Rattle.entry.specs.Entry.{Entry}

@@ -1,5 +1,6 @@
 // Tests of scripts, the runner, commands and the reader of a day, on examples whose answers come from the rules.
 #![tactic(auto)]
+
 #[cfg(test)]
 mod commands;
 #[cfg(test)]

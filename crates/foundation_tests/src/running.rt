@@ -1,6 +1,6 @@
 // What scripts ask for and give. Lines stand as in a row: a kind and three numbers.
-use runner::{Step, run};
 use machine::Registers;
+use runner::{Step, run};
 
 const MOST: u64 = u64::MAX;
 

@@ -1,9 +1,8 @@
 -- A command that answers by its faults tells and leaves what the faults say. Assumes nothing.
-use Rattle.std.proofs.Common.{◌≡◌, ℕ, Bool, true, cond, List, is_ok, Ok, Err, Option, Result, sym, refl, subst}
+use Rattle.std.proofs.Common.{◌≡◌, ℕ, cond, List, is_ok, Ok, Err, Option, Result, refl, subst}
 use Rattle.std.specs.Result.{result_err}
 use Rattle.script.specs.declared.refusal.Refusal.{Refusal}
 use Rattle.house.specs.Performed.{kept_or, told_by, verdict}
-use Rattle.house.specs.declared.perform.Told.{Told}
 
 pub tells_fault : {A : Type 0} (r : Result A Refusal) (fault : Option Refusal) → result_err r ≡ fault → told_by r ≡ verdict fault
 tells_fault (Ok x) fault e = subst (λ f. told_by (Ok x) ≡ verdict f) e refl

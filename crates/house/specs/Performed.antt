@@ -10,7 +10,7 @@ use Rattle.script.specs.declared.refusal.Refusal.{Refusal}
 use Rattle.script.specs.declared.refusal.Refusal.TheVariants.{NoSuchDesk}
 use Rattle.store.specs.Faults.{remove_fault}
 use Rattle.store.specs.Rows.{added, removed}
-use Rattle.theory.specs.Items.{Item, made, written}
+use Rattle.theory.specs.Items.{made, written}
 use Rattle.house.specs.Deeds.{Deed, write, give, build, forget, bring}
 use Rattle.house.specs.DeskFaults.{desk_fault, script_at_fault}
 use Rattle.house.specs.Desks.{desk_part, has_desk, with_desk}

@@ -1,5 +1,6 @@
 // Tests of whole days of commands, on examples whose answers come from the rules.
 #![tactic(auto)]
+
 #[cfg(test)]
 mod days;
 #[cfg(test)]

@@ -63,7 +63,7 @@ fn put_entries(row: &mut [u64], answers: &[u64]) {
 fn check_stored(rt: &impl Abort, house: &House, answers: &[u64]) {
     let mut row = [0; 392];
     put_entries(&mut row, answers);
-    assert!(rt; house.rows.as_slice() == &row);
+    assert!(rt; house.rows.as_slice() == row.as_slice());
 }
 
 #[test]

@@ -1,10 +1,10 @@
 -- The items of a row in which one is written anew: that one is set, and the others stay. Assumes nothing.
-use Rattle.std.proofs.Common.{◌≡◌, ℕ, ◌+◌, ◌-◌, ◌*◌, ◌<◌, ◌≤◌, min, cond, eqb, List, [], ◌∷◌, ◌++◌, length, get_or, take, drop, set, replicate, sym, refl, ap, ◌∙◌, arith}
+use Rattle.std.proofs.Common.{◌≡◌, ℕ, ◌+◌, ◌*◌, ◌<◌, ◌≤◌, min, cond, eqb, List, [], ◌++◌, length, get_or, take, drop, set, sym, refl, ap, ◌∙◌, arith}
 use Rattle.std.proofs.lemmas.List.{append-nil, drop-append-le, drop-drop, drop-take, get_or_append_left, get_or-take, length-append, length-drop, length-take-le}
 use Rattle.rows.specs.Rows.{chunks}
 use Rattle.rows.proofs.Counted.{count_in}
 use Rattle.rows.proofs.Over.{chunks_over}
-use Rattle.script.specs.Layout.{max_lines, script_size}
+use Rattle.script.specs.Layout.{script_size}
 use Rattle.script.specs.Rows.{script_in, script_out}
 use Rattle.script.proofs.Lines.{length_script_out, script_back, script_take}
 use Rattle.theory.specs.Items.{Item, made, written}

@@ -1,5 +1,5 @@
 -- What one line does to the registers, and what the rest of a script is worth after it. Assumes nothing: these are definitions.
-use Rattle.std.specs.Prelude.{ℕ, ◌+◌, ◌-◌, ◌^◌, min, cond, List, drop, replicate, ◌==◌, slice_set}
+use Rattle.std.specs.Prelude.{ℕ, ◌+◌, ◌-◌, ◌^◌, min, cond, drop, replicate, ◌==◌, slice_set}
 use Rattle.script.specs.Layout.{register_count}
 use Rattle.script.specs.Rule.{Script, Task, Value, asks, done, in_register, sum, task}
 use Rattle.machine.specs.declared.effect.Effect.{Effect}

@@ -1,5 +1,6 @@
 // Performs days of random commands from seeds, with a clean build beside each build, and counts what agrees.
 #![tactic(auto)]
+
 mod beside;
 mod days;
 mod drafts;

@@ -1,8 +1,8 @@
 -- Laws of counted lists: how one is written piece by piece, and that it is read back. Assumes nothing.
-use Rattle.std.proofs.Common.{◌≡◌, ℕ, zero, suc, ◌+◌, ◌-◌, ◌*◌, ◌<◌, ◌≤◌, min, List, [], ◌∷◌, ◌++◌, length, get_or, take, drop, replicate, sym, refl, ap, ◌∙◌, mul-le-mul_left, mul-zero, mul-suc, add-one, arith}
+use Rattle.std.proofs.Common.{◌≡◌, ℕ, suc, ◌+◌, ◌-◌, ◌*◌, ◌<◌, ◌≤◌, min, List, [], ◌∷◌, ◌++◌, length, get_or, take, drop, replicate, sym, refl, ap, ◌∙◌, mul-le-mul_left, mul-zero, mul-suc, add-one, arith}
 use Rattle.std.specs.List.{flat_map}
 use Rattle.std.proofs.lemmas.List.{append_assoc, append-nil, drop_at, drop-drop, drop-take, get_or-take, flat_map_more, length-append, length-replicate, take_all, take_more}
-use Rattle.rows.specs.Rows.{chunks, counted, counted_out, padded, written_at}
+use Rattle.rows.specs.Rows.{chunks, counted, counted_out, written_at}
 use Rattle.rows.proofs.Chunks.{chunk_at, chunks_take, length_chunks}
 use Rattle.rows.proofs.Written.{length_written, take_written}
 

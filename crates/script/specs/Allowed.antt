@@ -1,5 +1,5 @@
 -- Which lines and which scripts are let in, and what is told of the others. Assumes nothing: these are definitions.
-use Rattle.std.specs.Prelude.{◌≡◌, ℕ, suc, ◌<◌, ◌≤◌, Bool, true, cond, ◌&&◌, List, [], ◌∷◌, length, drop, Some, None, Option, nat_lt, slice_index}
+use Rattle.std.specs.Prelude.{◌≡◌, ℕ, suc, ◌≤◌, Bool, true, cond, ◌&&◌, List, [], ◌∷◌, length, drop, Some, None, Option, nat_lt, slice_index}
 use Rattle.std.specs.List.{AllByRecursion as All}
 use Rattle.rows.specs.Rows.{chunks}
 use Rattle.script.specs.Layout.{line_size, max_lines, max_skip, register_count}

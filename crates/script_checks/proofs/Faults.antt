@@ -1,10 +1,10 @@
 -- Laws of the faults of lines: a script has none exactly if it is allowed. Assumes nothing.
-use Rattle.std.proofs.Common.{◌≡◌, ℕ, suc, ◌+◌, ◌<◌, ◌≤◌, Bool, true, false, cond, ltb, List, [], ◌∷◌, length, get_or, drop, Some, None, Decides, Option, sym, refl, ap, ◌∙◌, add-one, arith}
+use Rattle.std.proofs.Common.{◌≡◌, ℕ, suc, ◌+◌, ◌<◌, ◌≤◌, true, false, List, [], ◌∷◌, length, get_or, drop, Some, None, Decides, Option, sym, refl, ◌∙◌, add-one, arith}
 use Rattle.std.specs.List.{AllByRecursion as All}
 use Rattle.std.proofs.lemmas.List.{at_drop_all, at_drop_more}
 use Rattle.std.proofs.lemmas.Bool.Decides.{nat_tests}
-use Rattle.script.specs.Allowed.{LineAllowed, ScriptAllowed, first_fault, line_fault, or_else, registers_known, script_fault, skip_of}
-use Rattle.script.specs.Layout.{max_lines, max_skip}
+use Rattle.script.specs.Allowed.{LineAllowed, ScriptAllowed, first_fault, line_fault, or_else, script_fault}
+use Rattle.script.specs.Layout.{max_lines}
 use Rattle.script.specs.declared.refusal.Refusal.{Refusal}
 use Rattle.script.specs.declared.refusal.Refusal.TheVariants.{TooManyLines}
 use Rattle.script.specs.declared.source.SourceLine.{SourceLine}

@@ -1,5 +1,5 @@
 -- What a store holds after an entry is added or removed. Assumes nothing.
-use Rattle.std.proofs.Common.{◌≡◌, ℕ, ◌+◌, ◌-◌, ◌*◌, ◌<◌, ◌≤◌, List, [], ◌∷◌, ◌++◌, length, get_or, take, drop, set, replicate, sym, refl, ap, ◌∙◌, arith}
+use Rattle.std.proofs.Common.{◌≡◌, ℕ, ◌+◌, ◌-◌, ◌*◌, ◌<◌, ◌≤◌, List, [], ◌∷◌, ◌++◌, length, take, drop, replicate, sym, ap, ◌∙◌, arith}
 use Rattle.std.proofs.lemmas.List.{drop_at, drop-drop, drop-set-lt, drop-take, get_or-set_same, length-append, length-drop, length-replicate, length-set, length-take-le, take_at}
 use Rattle.rows.specs.Rows.{chunks}
 use Rattle.rows.proofs.Chunks.{chunks_more, chunks_same, chunks_split, drop_chunks, take_chunks}
@@ -7,7 +7,7 @@ use Rattle.entry.specs.Entry.{Entry}
 use Rattle.entry.specs.Layout.{entry_size}
 use Rattle.entry.specs.Rows.{Fitting, entry_in, entry_out}
 use Rattle.entry.proofs.Forms.{entry_first, entry_local, length_entry}
-use Rattle.store.specs.Rows.{added, count_of, entries_in, entry_at, removed, room_of, without}
+use Rattle.store.specs.Rows.{added, count_of, entries_in, entry_at, removed, without}
 
 -- rows that agree up to entry n have the same first n entries
 first_same : (xs ys : List ℕ) (n : ℕ) → take (entry_at n) xs ≡ take (entry_at n) ys → chunks entry_in entry_size n (drop 2 xs) ≡ chunks entry_in entry_size n (drop 2 ys)

@@ -1,5 +1,6 @@
 // Tests of entries, the store and the commands that change it, on examples whose answers come from the rules.
 #![tactic(auto)]
+
 #[cfg(test)]
 mod commands;
 #[cfg(test)]

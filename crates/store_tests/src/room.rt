@@ -19,7 +19,7 @@ fn no_room(rt: HostRuntime) -> Result<(), Fail> {
         Some((10, 0))
     );
     assert_eq!(rt; told(remove_entry(rows.as_mut_slice(), 0)), Some((8, 0)));
-    assert!(rt; rows.as_slice() == &[0, 0]);
+    assert!(rt; rows.as_slice() == [0, 0].as_slice());
     Ok(())
 }
 

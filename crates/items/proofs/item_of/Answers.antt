@@ -1,7 +1,7 @@
-use Rattle.std.proofs.Common.{◌≡◌, ◌<◌, ◌≤◌, length, sym, ap, ◌∙◌, subst, arith}
+use Rattle.std.proofs.Common.{◌<◌, ◌≤◌, length, sym, ap, ◌∙◌, subst, arith}
 use Rattle.std.proofs.lemmas.List.{get_or_past}
 use Rattle.rows.proofs.Counted.{counted_at}
-use Rattle.theory.specs.Items.{item, written}
+use Rattle.theory.specs.Items.{written}
 use Rattle.items.specs.Rows.{StandsFor, first_item, item_size, items_in, max_items}
 use Rattle.items.proofs.item_of.Goals as goal
 

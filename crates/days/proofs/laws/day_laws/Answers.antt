@@ -1,5 +1,5 @@
-use Rattle.std.proofs.Common.{sym, refl, ◌∙◌, subst}
-use Rattle.days.specs.Goes.{Day, Goes, refuses}
+use Rattle.std.proofs.Common.{sym, ◌∙◌, subst}
+use Rattle.days.specs.Goes.{Day}
 use Rattle.days.proofs.Apart.{day_own}
 use Rattle.days.proofs.Going.{day_one, day_total, goes_one, goes_total, refused_same}
 use Rattle.days.proofs.Kept.{goes_honest, goes_within}

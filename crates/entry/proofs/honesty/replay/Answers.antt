@@ -1,4 +1,4 @@
-use Rattle.std.proofs.Common.{ap, ◌∙◌}
+use Rattle.std.proofs.Common.{◌∙◌}
 use Rattle.script.specs.Rows.{script_in}
 use Rattle.script.specs.Rule.{task_of}
 use Rattle.entry.specs.Replay.{differs}

@@ -1,4 +1,4 @@
-use Rattle.std.proofs.Common.{length, refl, arith}
+use Rattle.std.proofs.Common.{refl, arith}
 use Rattle.rows.proofs.Counted.{ended}
 use Rattle.script.specs.Layout.{max_askings}
 use Rattle.entry.specs.Layout.{asking_size}

@@ -1,4 +1,4 @@
-use Rattle.std.proofs.Common.{◌+◌, ◌*◌, ◌≤◌, length, refl, arith}
+use Rattle.std.proofs.Common.{◌+◌, ◌*◌, ◌≤◌, length, arith}
 use Rattle.std.proofs.lemmas.List.{get_or_default}
 use Rattle.rows.proofs.Counted.{begun_end, begun_more}
 use Rattle.entry.specs.Layout.{asking_size}

@@ -1,4 +1,4 @@
-use Rattle.std.proofs.Common.{◌≡◌, subst}
+use Rattle.std.proofs.Common.{subst}
 use Rattle.build.specs.Build.{BuiltSo}
 use Rattle.house.proofs.Parts.{cut_out, spanned}
 use Rattle.house.proofs.desk_commands.build_at.Goals as goal

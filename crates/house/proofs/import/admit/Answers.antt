@@ -1,7 +1,7 @@
-use Rattle.std.proofs.Common.{◌≡◌, ◌≤◌, cond, map, length, is_ok, sym, refl, ap, ◌∙◌, arith}
+use Rattle.std.proofs.Common.{◌≤◌, cond, map, length, is_ok, refl, ap, ◌∙◌, arith}
 use Rattle.std.specs.Option.{option_map}
 use Rattle.std.proofs.lemmas.List.{length-map}
-use Rattle.std.proofs.lemmas.Bool.{and_from, cond-true, eq-eqb, le-leb}
+use Rattle.std.proofs.lemmas.Bool.{and_from, cond-true, le-leb}
 use Rattle.script.specs.Allowed.{counted_as, or_else}
 use Rattle.script.specs.Layout.{max_lines}
 use Rattle.script.specs.declared.refusal.Refusal.TheVariants.{NotHonest}

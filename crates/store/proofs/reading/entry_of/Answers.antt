@@ -1,6 +1,5 @@
-use Rattle.std.proofs.Common.{◌≡◌, ◌+◌, ◌-◌, ◌*◌, ◌^◌, min, drop, ap, ◌∙◌, arith}
+use Rattle.std.proofs.Common.{◌≡◌, ◌-◌, ◌^◌, min, drop, ap, ◌∙◌, arith}
 use Rattle.rows.proofs.Chunks.{drop_min}
-use Rattle.entry.specs.Layout.{entry_size}
 use Rattle.store.specs.Rows.{entry_at}
 use Rattle.store.proofs.reading.entry_of.Goals as goal
 

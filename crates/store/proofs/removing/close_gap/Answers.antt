@@ -1,9 +1,9 @@
-use Rattle.std.proofs.Common.{◌≡◌, ℕ, ◌+◌, ◌-◌, ◌*◌, ◌<◌, ◌≤◌, List, ◌++◌, length, take, drop, set, replicate, sym, refl, ap, ◌∙◌, arith}
+use Rattle.std.proofs.Common.{◌≡◌, ℕ, ◌+◌, ◌-◌, ◌*◌, ◌<◌, ◌≤◌, List, ◌++◌, length, take, drop, set, replicate, refl, ap, ◌∙◌, arith}
 use borrow.Rule.Slice.PartMut.{put_mid}
 use Rattle.std.proofs.lemmas.List.{append_assoc, drop-drop, length-drop, length-take}
 use Rattle.entry.specs.Layout.{entry_size}
 use Rattle.store.specs.Rows.{count_of, entry_at, removed}
-use Rattle.store.proofs.Moved.{drop_moved, length_moved, moved, take_moved}
+use Rattle.store.proofs.Moved.{drop_moved, moved, take_moved}
 use Rattle.store.proofs.removing.close_gap.Goals as goal
 
 module _ (d : List ℕ) (i n : ℕ) (inside : i < n) (counts : n ≡ count_of d) (long : entry_at n ≤ length d) where

@@ -1,6 +1,5 @@
-use Rattle.std.proofs.Common.{sym, arith}
+use Rattle.std.proofs.Common.{arith}
 use Rattle.std.proofs.lemmas.List.{set_past}
-use Rattle.machine.specs.declared.registers.Registers.{Registers}
 use Rattle.machine.proofs.registers.Registers.set.Goals as goal
 
 pub returns-else-register : goal.returns-else-register
