@@ -1,6 +1,6 @@
 -- What the runs of a desk's items leave fits the row of an entry. Assumes nothing.
 use Rattle.std.proofs.Common.{ℕ, ◌+◌, ◌*◌, ◌≤◌, Bool, true, false, cond, eqb, List, [], ◌∷◌, length, get_or, drop, sym, subst, ⊎_elim, arith}
-use Rattle.std.specs.List.{AllByRecursion as All}
+use Rattle.std.specs.List.{AllByRecursion}
 use Rattle.std.proofs.lemmas.List.{get_or_past}
 use Rattle.std.proofs.lemmas.Bool.{cases_lt}
 use Rattle.rows.proofs.Counted.{counted_at}
@@ -38,6 +38,6 @@ from_fits s Open h = (omega arith, omega arith)
 from_fits s (Found v) h = (omega arith, omega arith)
 from_fits s (Ran v row) h = (h, askings_few row)
 
-pub left_fits : (xs : List ℕ) (σ : Scratch) (js : List ℕ) → All Fitting (left_all (items_in xs) σ js)
+pub left_fits : (xs : List ℕ) (σ : Scratch) (js : List ℕ) → AllByRecursion Fitting (left_all (items_in xs) σ js)
 left_fits xs σ [] = tt
 left_fits xs σ (j ∷ js) = (from_fits _ (state_of σ j) (short_scripts xs j), left_fits xs σ js)

@@ -1,6 +1,6 @@
 -- What entries one after the other do to a store's row. Assumes nothing.
 use Rattle.std.proofs.Common.{◌≡◌, ℕ, zero, suc, ◌+◌, ◌-◌, ◌*◌, ◌<◌, ◌≤◌, min, List, [], ◌∷◌, ◌++◌, length, take, drop, sym, refl, ap, ◌∙◌, ⊎_elim, arith}
-use Rattle.std.specs.List.{AllByRecursion as All}
+use Rattle.std.specs.List.{AllByRecursion}
 use Rattle.std.proofs.ByRecursion.{All-take}
 use Rattle.std.proofs.lemmas.List.{append_assoc, append-nil, length-take, take-take}
 use Rattle.std.proofs.lemmas.Bool.{cases_lt, le-ltb, lt-ltb}
@@ -33,7 +33,7 @@ added_fine rows e fits fine free =
     let room = room_added rows e fits long in
     record { long = omega (arith, fine.long, length_added rows e fits long); within = omega arith }
 
-more_all : (rows : List ℕ) (es : List Entry) → All Fitting es → Fine rows → count_of rows + length es ≤ room_of rows → More rows es (added_all rows es)
+more_all : (rows : List ℕ) (es : List Entry) → AllByRecursion Fitting es → Fine rows → count_of rows + length es ≤ room_of rows → More rows es (added_all rows es)
 unfolding added_all
 more_all rows [] fits fine enough = record {
   long = refl;
@@ -75,7 +75,7 @@ take_none : {A : Type 0} (m : ℕ) → take {A = A} m [] ≡ []
 take_none zero = refl
 take_none (suc m) = refl
 
-kept_added : (rows : List ℕ) (es : List Entry) → All Fitting es → Fine rows → kept_all rows es ≡ added_all rows (take (room_of rows - count_of rows) es)
+kept_added : (rows : List ℕ) (es : List Entry) → AllByRecursion Fitting es → Fine rows → kept_all rows es ≡ added_all rows (take (room_of rows - count_of rows) es)
 unfolding kept_all added_all
 kept_added rows [] fits fine = ap (added_all rows) (sym (take_none (room_of rows - count_of rows)))
 kept_added rows (e ∷ es) fits fine =
@@ -96,7 +96,7 @@ kept_added rows (e ∷ es) fits fine =
     ∙ ap (λ m. added_all rows (take m (e ∷ es))) (sym none))
     (cases_lt (count_of rows) (room_of rows))
 
-pub stored : (rows : List ℕ) (new : List Entry) (rows₁ : List ℕ) → All Fitting new → Fine rows → rows₁ ≡ kept_all rows new → Stored rows new rows₁
+pub stored : (rows : List ℕ) (new : List Entry) (rows₁ : List ℕ) → AllByRecursion Fitting new → Fine rows → rows₁ ≡ kept_all rows new → Stored rows new rows₁
 stored rows new rows₁ fits fine is =
     let m = room_of rows - count_of rows in
     let es = take m new in

@@ -1,6 +1,6 @@
 -- An entry's answers are tested in order, as long as they are right. Assumes nothing.
 use Rattle.std.proofs.Common.{◌≡◌, ℕ, ◌+◌, ◌<◌, ◌≤◌, List, [], ◌∷◌, ◌++◌, length, get_or, take, drop, Some, None, sym, ap, ◌∙◌, subst, ⊎_elim, arith}
-use Rattle.std.specs.List.{AllByRecursion as All}
+use Rattle.std.specs.List.{AllByRecursion}
 use Rattle.std.proofs.ByRecursion.{All-push}
 use Rattle.std.proofs.lemmas.List.{get_or_default, take_all, take_more}
 use Rattle.std.proofs.lemmas.Bool.{cases_eq}
@@ -34,7 +34,7 @@ past row {i = i} is h = subst (λ xs. length (askings_in xs) ≤ i) is h
 pub record Trying (d : List Item) (es : List Entry) (e : Entry) (σ : Scratch) (i : ℕ) (σ₁ : Scratch) : Type 0 where
   pub went : Went d es (Looked d (task_of e.script)) σ σ₁
   pub right : (j : ℕ) → j < i → RightAt d e j
-  pub settled : All (λ q. Settled d σ₁ q.item) (take i e.asked)
+  pub settled : AllByRecursion (λ q. Settled d σ₁ q.item) (take i e.asked)
 
 pub trying_none : {d : List Item} {es : List Entry} {e : Entry} {σ : Scratch} → Sound d es σ → Trying d es e σ 0 σ
 trying_none s = record { went = went_none s; right = λ j h. absurd (omega arith); settled = tt }
@@ -47,7 +47,7 @@ module _ {d : List Item} {es : List Entry} {e : Entry} {σ σ₁ : Scratch} {dep
         usable,
         record {
           along = runs_along (honest_runs d e honest usable);
-          settled = subst (λ qs. All (λ q. Settled d σ₁ q.item) qs) (take_all i e.asked past) so_far.settled;
+          settled = subst (λ qs. AllByRecursion (λ q. Settled d σ₁ q.item) qs) (take_all i e.asked past) so_far.settled;
         },
       )
 
@@ -94,6 +94,6 @@ module _ {d : List Item} {es : List Entry} {e : Entry} {σ σ₁ : Scratch} {dep
                 (λ at_i. subst (λ x. RightAt d e x) (sym at_i) (subst (λ x. Makes d x.item x.answer) (sym same) (subst (λ x. Makes d q.item x) agrees makes)))
                 (λ other. so_far.right j (omega arith))
                 (cases_eq j i);
-            settled = subst (λ qs. All (λ x. Settled d σ₂ x.item) qs) (sym (take_more e.asked i q there.0 ∙ ap (λ x. take i e.asked ++ x ∷ []) there.1))
+            settled = subst (λ qs. AllByRecursion (λ x. Settled d σ₂ x.item) qs) (sym (take_more e.asked i q there.0 ∙ ap (λ x. take i e.asked ++ x ∷ []) there.1))
                 (All-push (λ x. Settled d σ₂ x.item) (take i e.asked) q (all_keeps (later_keeps went.grown.later) (take i e.asked) so_far.settled) settled);
           }

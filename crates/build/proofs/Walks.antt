@@ -1,6 +1,6 @@
 -- Laws of settled items, and of tasks that came along their answers. Assumes nothing.
 use Rattle.std.proofs.Common.{ℕ, ◌⊎◌, List, [], ◌∷◌, ◌++◌, ◌∙◌, subst, inl, inr, ⊎_elim}
-use Rattle.std.specs.List.{AllByRecursion as All}
+use Rattle.std.specs.List.{AllByRecursion}
 use Rattle.std.proofs.ByRecursion.{All-push}
 use Rattle.script.specs.Rule.{Task, Value, asks, done}
 use Rattle.entry.specs.declared.asking.Asking.{Asking}
@@ -22,7 +22,7 @@ later_keeps l j (by_hand e) = by_hand e
 later_keeps l j (by_entry e) = by_entry (l.stays j (found_seen e) ∙ e)
 later_keeps l j (by_run e) = by_run (l.stays j (ran_seen e) ∙ e)
 
-pub all_keeps : {d : List Item} {σ σ₁ : Scratch} → Keeps d σ σ₁ → (qs : List Asking) → All (λ q. Settled d σ q.item) qs → All (λ q. Settled d σ₁ q.item) qs
+pub all_keeps : {d : List Item} {σ σ₁ : Scratch} → Keeps d σ σ₁ → (qs : List Asking) → AllByRecursion (λ q. Settled d σ q.item) qs → AllByRecursion (λ q. Settled d σ₁ q.item) qs
 all_keeps keeps [] a = tt
 all_keeps keeps (q ∷ qs) a = (keeps q.item a.0, all_keeps keeps qs a.1)
 
@@ -40,7 +40,7 @@ pub walked_runs : {d : List Item} {σ : Scratch} {t : Task} {qs : List Asking} {
 walked_runs w = along_done w.along
 
 -- what a task asks for was settled on the way, or is asked for later
-asked_cases : {d : List Item} {t u : Task} {qs : List Asking} {j : ℕ} (σ : Scratch) → Along d t qs u → All (λ q. Settled d σ q.item) qs → Asks d t j → Settled d σ j ⊎ Asks d u j
+asked_cases : {d : List Item} {t u : Task} {qs : List Asking} {j : ℕ} (σ : Scratch) → Along d t qs u → AllByRecursion (λ q. Settled d σ q.item) qs → Asks d t j → Settled d σ j ⊎ Asks d u j
 asked_cases σ at_start a b = inr b
 asked_cases σ (then_on m w) a now = inl a.0
 asked_cases {d} {u = u} {j = j} σ (then_on {c = c} m w) a (later n b) = asked_cases σ w a.1 (subst (λ x. Asks d (c x) j) (makes_unique n m) b)

@@ -1,6 +1,6 @@
 -- When what the scratch of a build says of the items is right. Assumes nothing: these are definitions.
 use Rattle.std.specs.Prelude.{◌≡◌, ℕ, ◌≤◌, ◌⊎◌, List, length, ◌≢◌}
-use Rattle.std.specs.List.{AllByRecursion as All}
+use Rattle.std.specs.List.{AllByRecursion}
 use Rattle.rows.specs.Rows.{chunks}
 use Rattle.script.specs.Rule.{Script, Task, Value, asks, done, task_of}
 use Rattle.entry.specs.Entry.{AllHonest, Entry}
@@ -32,7 +32,7 @@ pub data Settled (d : List Item) (σ : Scratch) (j : ℕ) : Type 0 where
 -- a task came along these right answers, all of settled items, to that task
 pub record Walked (d : List Item) (σ : Scratch) (t : Task) (qs : List Asking) (u : Task) : Type 0 where
   pub along : Along d t qs u
-  pub settled : All (λ q. Settled d σ q.item) qs
+  pub settled : AllByRecursion (λ q. Settled d σ q.item) qs
 
 -- a task waits for an item that is open
 pub record Held (d : List Item) (σ : Scratch) (t : Task) : Type 0 where

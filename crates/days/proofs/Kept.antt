@@ -1,7 +1,7 @@
 -- The store under every command: its entries stay honest, and it holds no more than it has room for. Assumes nothing.
 use Rattle.std.proofs.Common.{◌≡◌, ℕ, ◌+◌, ◌<◌, ◌≤◌, List, [], ◌∷◌, length, take, drop, None, Ok, Option, sym, refl, arith}
 use Rattle.std.specs.Option.{option_map}
-use Rattle.std.specs.List.{AllByRecursion as All}
+use Rattle.std.specs.List.{AllByRecursion}
 use Rattle.std.proofs.ByRecursion.{All-append, All-drop, All-from_get_or, All-get_or, All-take}
 use Rattle.std.proofs.lemmas.List.{length-append, length-drop, length-take}
 use Rattle.std.proofs.lemmas.Bool.Decides.{nat_tests}
@@ -35,11 +35,11 @@ let_in h ls qs v n =
     let room : length h.store < h.room = let none = first_none (full_fault h) _ (second_none differing _ last) in grind (arith, nat_tests) in
     ((decided {A = ℕ} (entry_of ls qs v) (Ok 0) (sym same)).0 refl, room)
 
-from_all : (es : List Entry) → All Honest es → AllHonest es
+from_all : (es : List Entry) → AllByRecursion Honest es → AllHonest es
 unfolding AllHonest
 from_all es all = λ i h. All-get_or Honest es i no_entry h all
 
-to_all : (es : List Entry) → AllHonest es → All Honest es
+to_all : (es : List Entry) → AllHonest es → AllByRecursion Honest es
 unfolding AllHonest
 to_all es honest = All-from_get_or Honest es no_entry honest
 

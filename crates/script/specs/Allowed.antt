@@ -1,6 +1,6 @@
 -- Which lines and which scripts are let in, and what is told of the others. Assumes nothing: these are definitions.
 use Rattle.std.specs.Prelude.{◌≡◌, ℕ, suc, ◌≤◌, Bool, true, cond, ◌&&◌, List, [], ◌∷◌, length, drop, Some, None, Option, nat_lt, slice_index}
-use Rattle.std.specs.List.{AllByRecursion as All}
+use Rattle.std.specs.List.{AllByRecursion}
 use Rattle.rows.specs.Rows.{chunks}
 use Rattle.script.specs.Layout.{line_size, max_lines, max_skip, register_count}
 use Rattle.script.specs.Rows.{line_in}
@@ -72,4 +72,4 @@ LineAllowed (Unknown kind r) = ⊥
 LineAllowed (Known l) = (registers_known l ≡ true) × (skip_of l ≤ max_skip)
 
 abbrev pub ScriptAllowed : List SourceLine → Type 0
-ScriptAllowed ls = (length ls ≤ max_lines) × All LineAllowed ls
+ScriptAllowed ls = (length ls ≤ max_lines) × AllByRecursion LineAllowed ls

@@ -1,6 +1,6 @@
 -- Laws of the faults of lines: a script has none exactly if it is allowed. Assumes nothing.
 use Rattle.std.proofs.Common.{◌≡◌, ℕ, suc, ◌+◌, ◌<◌, ◌≤◌, true, false, List, [], ◌∷◌, length, get_or, drop, Some, None, Decides, Option, sym, refl, ◌∙◌, add-one, arith}
-use Rattle.std.specs.List.{AllByRecursion as All}
+use Rattle.std.specs.List.{AllByRecursion}
 use Rattle.std.proofs.lemmas.List.{at_drop_all, at_drop_more}
 use Rattle.std.proofs.lemmas.Bool.Decides.{nat_tests}
 use Rattle.script.specs.Allowed.{LineAllowed, ScriptAllowed, first_fault, line_fault, or_else, script_fault}
@@ -30,13 +30,13 @@ or_none : (x y : Option Refusal) → or_else x y ≡ None → (x ≡ None) × (y
 or_none None y e = (refl, e)
 or_none (Some r) y e = absurd (grind arith)
 
-first_none : (i : ℕ) (ls : List SourceLine) → first_fault i ls ≡ None → All LineAllowed ls
+first_none : (i : ℕ) (ls : List SourceLine) → first_fault i ls ≡ None → AllByRecursion LineAllowed ls
 first_none i [] e = tt
 first_none i (l ∷ ls) e =
     let both = or_none (line_fault i l) (first_fault (suc i) ls) (sym (first_cons i l ls) ∙ e) in
     (fault_none i l both.0, first_none (suc i) ls both.1)
 
-none_first : (i : ℕ) (ls : List SourceLine) → All LineAllowed ls → first_fault i ls ≡ None
+none_first : (i : ℕ) (ls : List SourceLine) → AllByRecursion LineAllowed ls → first_fault i ls ≡ None
 none_first i [] a = first_nil i
 none_first i (l ∷ ls) a = first_cons i l ls ∙ rw (none_fault i l a.0) (none_first (suc i) ls a.1)
 

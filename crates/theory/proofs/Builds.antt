@@ -1,6 +1,6 @@
 -- Laws of a build over a store: it is one, it leaves a good store, and built again it runs little. Assumes nothing.
 use Rattle.std.proofs.Common.{◌≡◌, ℕ, ◌+◌, ◌-◌, ◌≤◌, List, [], ◌∷◌, ◌++◌, length, take, set, sym, refl, ap, ◌∙◌, subst, ⊎_elim, arith}
-use Rattle.std.specs.List.{AllByRecursion as All}
+use Rattle.std.specs.List.{AllByRecursion}
 use Rattle.std.proofs.ByRecursion.{All-append, All-from_get_or, All-get_or, All-take}
 use Rattle.std.proofs.lemmas.List.{length-append, length-take}
 use Rattle.std.proofs.lemmas.Bool.{cases_eq}
@@ -25,7 +25,7 @@ module _ {d : List Item} {es fs : List Entry} {room k : ℕ} {o : Out} {ran : Li
   unfolding AllHonest
   build_honest old =
       let kept = All-append Honest es (take (room - length es) b.new) (All-from_get_or Honest es no_entry old) (All-take Honest (room - length es) b.new (each_left_honest b.left)) in
-      λ i h. All-get_or Honest fs i no_entry h (subst (λ x. All Honest x) (sym b.store) kept)
+      λ i h. All-get_or Honest fs i no_entry h (subst (λ x. AllByRecursion Honest x) (sym b.store) kept)
 
   pub build_within : length es ≤ room → length fs ≤ room
   build_within h = omega (arith, ap length b.store, length-append es (take (room - length es) b.new), length-take (room - length es) b.new)

@@ -1,6 +1,6 @@
 -- The entries that runs leave: one for each item, honest and usable. Assumes nothing.
 use Rattle.std.proofs.Common.{◌≡◌, ℕ, suc, ◌<◌, List, length, get_or, sym, refl, ap, subst, arith}
-use Rattle.std.specs.List.{AllByRecursion as All}
+use Rattle.std.specs.List.{AllByRecursion}
 use Rattle.script.specs.Rule.{task_of}
 use Rattle.entry.specs.Entry.{Entry, Honest, no_entry}
 use Rattle.theory.specs.Build.{EachLeft, In, Left, Usable, and_one, here, no_more, there}
@@ -31,7 +31,7 @@ pub left_honest : {d : List Item} {j : ℕ} {e : Entry} → Left d j e → Hones
 unfolding Honest
 left_honest l = runs_replays l.ran
 
-pub each_left_honest : {d : List Item} {js : List ℕ} {es : List Entry} → EachLeft d js es → All Honest es
+pub each_left_honest : {d : List Item} {js : List ℕ} {es : List Entry} → EachLeft d js es → AllByRecursion Honest es
 each_left_honest no_more = tt
 each_left_honest (and_one l ls) = (left_honest l, each_left_honest ls)
 

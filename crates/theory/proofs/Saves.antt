@@ -1,6 +1,6 @@
 -- The test of a store tells exactly whether an entry saves the item. Assumes nothing.
 use Rattle.std.proofs.Common.{◌≡◌, ℕ, List, get_or, Decides, refl, ap, ◌∙◌, subst}
-use Rattle.std.specs.List.{AllByRecursion as All}
+use Rattle.std.specs.List.{AllByRecursion}
 use Rattle.std.proofs.ByRecursion.{All-from_get_or, All-get_or, Decides-by_and}
 use Rattle.std.proofs.lemmas.List.{get_or_default}
 use Rattle.std.proofs.lemmas.Bool.Decides.{Decides-and, Decides-by_or, Decides-eqb, Decides-like}
@@ -27,12 +27,12 @@ module _ (d : List Item) where
   decides_right : (q : Asking) → Decides (is_value (clean d q.item) q.answer) (Right q)
   decides_right q = Decides-like _ (clean_makes d q.item q.answer) makes_clean (decides_value (clean d q.item) q.answer)
 
-  decides_all_right : (qs : List Asking) → Decides (all_right d qs) (All Right qs)
+  decides_all_right : (qs : List Asking) → Decides (all_right d qs) (AllByRecursion Right qs)
   unfolding all_right
   decides_all_right = Decides-by_and _ Right (all_right d) decides_right refl (λ _ _. refl)
 
   abbrev Saves : Script → Entry → Type 0
-  Saves s e = (s ≡ e.script) × All Right e.asked
+  Saves s e = (s ≡ e.script) × AllByRecursion Right e.asked
 
   module _ {j : ℕ} {s : Script} (is : item d j ≡ made s) where
     pub decides_saved : (es : List Entry) → Decides (any_saves d s es) (Saved d es j)
