@@ -1,6 +1,6 @@
 // Days of commands in a new house, and what is told, listed and kept.
 use super::draft::Draft;
-use super::house::{House, told_numbers};
+use super::lent_house::{House, told_numbers};
 use house::{HouseSize, Told};
 use rows::{number_after, tail};
 use std::alloc::Global;

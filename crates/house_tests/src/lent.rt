@@ -1,6 +1,6 @@
 // A house that is in use, whose rows are lent in good order or not, and commands that are refused there.
 use super::draft::Draft;
-use super::house::{House, refusal_numbers};
+use super::lent_house::{House, refusal_numbers};
 use super::scripts::TWICE;
 use house::HouseSize;
 use rows::put_all;

@@ -6,9 +6,9 @@ mod days;
 #[cfg(test)]
 mod draft;
 #[cfg(test)]
-mod house;
-#[cfg(test)]
 mod lent;
+#[cfg(test)]
+mod lent_house;
 #[cfg(test)]
 mod limits;
 #[cfg(test)]

@@ -1,7 +1,7 @@
 // Imports and removals, and what the store's row holds after them, number for number.
 use super::days::{Step, check_steps};
 use super::draft::Draft;
-use super::house::House;
+use super::lent_house::House;
 use house::{HouseSize, Told};
 use rows::put_all;
 use script::Refusal;
