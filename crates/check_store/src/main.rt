@@ -3,16 +3,19 @@
 
 use anyhow::anyhow;
 use script::Refusal;
+use std::process::ExitCode;
 use std::{env, fs};
 use store::{check_entry, check_store, entry_count, entry_of};
 use storefile::{StoreFileError, read_store};
 
-fn main(rt: HostRuntime) -> anyhow::Result<()> {
-    let outcome = run(&rt);
-    if let Err(error) = &outcome {
-        eprintln!(rt; "check_store: {error}")?;
+fn main(rt: HostRuntime) -> ExitCode {
+    match run(&rt) {
+        Ok(()) => ExitCode::SUCCESS,
+        Err(error) => {
+            let _ = eprintln!(rt; "check_store: {error}");
+            ExitCode::FAILURE
+        }
     }
-    outcome
 }
 
 fn run(rt: &HostRuntime) -> anyhow::Result<()> {
