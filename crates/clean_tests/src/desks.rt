@@ -47,16 +47,16 @@ pub fn expect(
 ) -> Result<(), Fail> {
     let mut ran = [UNTOUCHED; 257];
     match clean_build(items, &mut ran, item) {
-        Ok(told) => assert_eq!(rt; told, answer),
-        Err(refusal) => assert_eq!(rt; refusal.number(), 0),
+        Ok(told) => assert_eq!(rt; told, answer, "item {item}"),
+        Err(refusal) => assert_eq!(rt; refusal.number(), 0, "item {item}"),
     }
-    assert_eq!(rt; ran[0], list.len() as u64);
+    assert_eq!(rt; ran[0], list.len() as u64, "item {item}");
     for (index, number) in ran.iter().skip(1).enumerate() {
         let expected = match list.get(index) {
             Some(listed) => *listed,
             None => UNTOUCHED,
         };
-        assert_eq!(rt; *number, expected, "place {index}");
+        assert_eq!(rt; *number, expected, "item {item}, place {index}");
     }
     Ok(())
 }

@@ -34,7 +34,9 @@ fn print_day(rt: &HostRuntime, path: &str) -> anyhow::Result<()> {
     let Ok(bytes) = fs::read(rt, path) else {
         return Err(anyhow!(format!(in rt.alloc(); "cannot read {path}")?));
     };
-    let text = day_text(rt.alloc(), bytes.as_slice())?;
+    let Ok(text) = day_text(rt.alloc(), bytes.as_slice()) else {
+        return Err(anyhow!("out of memory"));
+    };
     print!(rt; "{text}")?;
     Ok(())
 }

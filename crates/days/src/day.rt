@@ -36,10 +36,8 @@ pub fn run_day(
 fn new_list(heap: Global, size: HouseSize) -> Result<Vec<u64>, AllocError>
     ensures { IfOk result (λ row. row.items ≡ replicate (size.items + 1) 0) }
 {
-    let Some(numbers) = (size.items as usize).checked_add(1) else {
-        return Err(AllocError);
-    };
     let mut row = Vec::new(heap);
-    push_zeros(&mut row, numbers)?;
+    row.push(0)?;
+    push_zeros(&mut row, size.items as usize)?;
     Ok(row)
 }
