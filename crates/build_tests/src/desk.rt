@@ -1,7 +1,8 @@
-// Desks in their row, what is done to one in a day, and what its builds tell.
+// What is done to a desk in a day, and what its builds tell.
+use super::answer::answer_numbers;
+use super::desk_row::{give_script, write_value};
 use build::{Answer, build_item};
-use items::{ITEM_SIZE, MAX_ITEMS};
-use rows::{number_after, put_all};
+use rows::number_after;
 use std::process::Abort;
 
 // What is done to a desk.
@@ -11,37 +12,6 @@ pub enum Deed {
     Give(usize, &'static [[u64; 4]]),
     // The item, the answer, the list, and how many entries are kept then.
     Build(u64, Answer, &'static [u64], u64),
-}
-
-pub const DESK_SIZE: usize = 1 + ITEM_SIZE * MAX_ITEMS;
-
-pub fn write_value(items: &mut [u64], item: usize, value: u64) {
-    if item < MAX_ITEMS {
-        put_all(items, 1 + ITEM_SIZE * item, &[0, value]);
-    }
-}
-
-// A script of at most 32 lines, each of four numbers.
-pub fn give_script(items: &mut [u64], item: usize, lines: &[[u64; 4]]) {
-    if item >= MAX_ITEMS {
-        return;
-    }
-    let start = 1 + ITEM_SIZE * item;
-    put_all(items, start, &[1, lines.len() as u64]);
-    for (index, line) in lines.iter().enumerate() {
-        if index < 32 {
-            put_all(items, start + 2 + 4 * index, line);
-        }
-    }
-}
-
-// An answer as three numbers that can be compared: which it is, and a value, or a refusal's number and place.
-pub fn answer_numbers(answer: Answer) -> (u64, u64, u64) {
-    match answer {
-        Answer::Value(value) => (0, value, 0),
-        Answer::Ring => (1, 0, 0),
-        Answer::Refused(refusal) => (2, refusal.number(), refusal.place()),
-    }
 }
 
 // What a build answers, lists and keeps.

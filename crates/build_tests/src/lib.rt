@@ -1,8 +1,10 @@
 // Tests of builds: the worked day, what is remembered, long and wide desks, rings, and stores from elsewhere.
 #![tactic(auto)]
 
+mod answer;
 #[cfg(test)]
 mod desk;
+mod desk_row;
 #[cfg(test)]
 mod refused;
 #[cfg(test)]

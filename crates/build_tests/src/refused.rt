@@ -1,5 +1,7 @@
 // Builds that are refused, and a store whose entry is not honest.
-use super::desk::{answer_numbers, check_build, give_script};
+use super::answer::answer_numbers;
+use super::desk::check_build;
+use super::desk_row::give_script;
 use build::{Answer, build_item};
 use script::Refusal;
 

@@ -1,5 +1,6 @@
 // Desks of 256 items: a chain, a ring, and many paths to one item.
-use super::desk::{DESK_SIZE, check_build, give_script, write_value};
+use super::desk::check_build;
+use super::desk_row::{DESK_SIZE, give_script, write_value};
 use build::Answer;
 use items::MAX_ITEMS;
 use std::process::Abort;

@@ -1,14 +1,7 @@
 // One day at a desk of eight items, with room for four entries.
-use super::desk::{check_build, give_script, write_value};
+use super::desk::{Deed, spend_day};
+use super::desk_row::{give_script, write_value};
 use build::Answer;
-use std::process::Abort;
-
-#[derive(Clone, Copy)]
-enum Deed {
-    Write(usize, u64),
-    // The item, the answer, the list, and how many entries are kept then.
-    Build(u64, Answer, &'static [u64], u64),
-}
 
 const DAY: [Deed; 12] = [
     Deed::Build(2, Answer::Value(8), &[2], 1),
@@ -53,21 +46,10 @@ fn desk() -> [u64; 1041] {
     items
 }
 
-fn spend_day(rt: &impl Abort, items: &mut [u64], rows: &mut [u64], ran: &mut [u64]) {
-    for deed in DAY {
-        match deed {
-            Deed::Write(item, value) => write_value(items, item, value),
-            Deed::Build(item, answer, list, kept) => {
-                check_build(rt, items, rows, ran, item, answer, list, kept)
-            }
-        }
-    }
-}
-
 #[test]
 fn the_worked_day(rt: HostRuntime) {
     let mut items = desk();
     let mut rows = [0; 782];
     rows[1] = 4;
-    spend_day(&rt, &mut items, &mut rows, &mut [77; 9]);
+    spend_day(&rt, &mut items, &mut rows, &mut [77; 9], &DAY);
 }

@@ -1,5 +1,6 @@
 // Desks in which each item asks for the next one, once or many times.
-use super::desks::{add_made, desk_of, expect, first_numbers};
+use super::desk_row::{add_made, desk_of, first_numbers};
+use super::desks::expect;
 use clean::CleanAnswer;
 use std::alloc::{AllocError, Global};
 use std::test::Fail;

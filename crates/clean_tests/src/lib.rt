@@ -3,6 +3,7 @@
 
 #[cfg(test)]
 mod chains;
+mod desk_row;
 #[cfg(test)]
 mod desks;
 #[cfg(test)]

@@ -1,5 +1,5 @@
 // When the lent list is too short, and how many items a row has.
-use super::desks::{add_made, add_written, desk_of};
+use super::desk_row::{add_made, add_written, desk_of};
 use clean::clean_build;
 use std::alloc::{AllocError, Global};
 use std::test::Fail;

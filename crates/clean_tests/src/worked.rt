@@ -1,5 +1,6 @@
 // One desk of eight items, with three pairs of numbers in its first two items.
-use super::desks::{add_made, add_written, desk_of, expect};
+use super::desk_row::{add_made, add_written, desk_of};
+use super::desks::expect;
 use clean::CleanAnswer;
 use std::alloc::{AllocError, Global};
 use std::process::Abort;

@@ -1,5 +1,6 @@
 // What is told of whole commands, as they stand in a file. The house has 2 desks of 3 items.
-use super::files::{FINE, add_lines, joined, told};
+use super::files::told;
+use super::pieces::{FINE, add_lines, joined};
 use std::alloc::{AllocError, Global};
 use std::test::Fail;
 

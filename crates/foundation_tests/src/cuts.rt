@@ -1,5 +1,5 @@
 // A file that is cut anywhere is read up to its last whole command.
-use super::files::joined;
+use super::pieces::joined;
 use dayfile::{DayError, read_day};
 use std::test::Fail;
 

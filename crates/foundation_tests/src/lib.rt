@@ -11,6 +11,7 @@ mod files;
 mod head;
 #[cfg(test)]
 mod lines;
+mod pieces;
 #[cfg(test)]
 mod reading;
 #[cfg(test)]

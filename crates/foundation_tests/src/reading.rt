@@ -1,5 +1,5 @@
 // What the commands of a file say, byte by byte.
-use super::files::joined;
+use super::pieces::joined;
 use dayfile::read_day;
 use house::Command;
 use script::SourceLine;

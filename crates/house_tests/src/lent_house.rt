@@ -1,4 +1,11 @@
 // A house in its three rows, and what is told of commands there.
+ghost use Rattle.entry.specs.Layout.{entry_size};
+ghost use Rattle.house.specs.Deeds.{deed_of};
+ghost use Rattle.house.specs.Desks.{new_desks};
+ghost use Rattle.house.specs.Performed.{PerformedSo};
+ghost use Rattle.house_tests.specs.Told.{told_as_numbers, told_as_refusal};
+ghost use Rattle.std.specs.Prelude.{◌≡◌, ◌+◌, ◌*◌, ◌∷◌, replicate, Decides, IfOk};
+
 use super::draft::Draft;
 use house::{Command, HouseSize, Told, new_desks};
 use rows::push_zeros;
@@ -14,7 +21,10 @@ pub struct House {
 }
 
 impl House {
-    pub fn new(heap: Global, size: HouseSize) -> Result<House, AllocError> {
+    // The house of a day's beginning.
+    pub fn new(heap: Global, size: HouseSize) -> Result<House, AllocError>
+        ensures { IfOk result (λ h. (h.size ≡ size) × (h.desks.items ≡ new_desks size) × (h.rows.items ≡ 0 ∷ (size.room ∷ replicate (entry_size * size.room) 0))) }
+    {
         let mut ran = Vec::new(heap);
         push_zeros(&mut ran, (size.items as usize).saturating_add(1))?;
         Ok(House {
@@ -25,7 +35,9 @@ impl House {
         })
     }
 
-    pub fn perform(&mut self, command: &Command) -> Told {
+    pub fn perform(&mut self, command: &Command) -> Told
+        ensures { PerformedSo self.old.size (deed_of command.now) self.old.desks.items self.old.rows.items self.old.ran.items result self.new.desks.items self.new.rows.items self.new.ran.items }
+    {
         command.perform(
             self.size,
             self.desks.as_mut_slice(),
@@ -39,7 +51,9 @@ impl House {
         Ok(self.perform(&command))
     }
 
-    pub fn same_rows(&self, other: &House) -> bool {
+    pub fn same_rows(&self, other: &House) -> bool
+        ensures { Decides result ((self.now.desks.items ≡ other.now.desks.items) × (self.now.rows.items ≡ other.now.rows.items) × (self.now.ran.items ≡ other.now.ran.items)) }
+    {
         self.desks.as_slice() == other.desks.as_slice()
             && self.rows.as_slice() == other.rows.as_slice()
             && self.ran.as_slice() == other.ran.as_slice()
@@ -47,7 +61,9 @@ impl House {
 }
 
 // What is told, as numbers that can be compared: which it is, and a value, or a refusal's number and place.
-pub fn told_numbers(told: Told) -> (u64, u64, u64) {
+pub fn told_numbers(told: Told) -> (u64, u64, u64)
+    ensures { result ≡ told_as_numbers told }
+{
     match told {
         Told::Done => (0, 0, 0),
         Told::Value(value) => (1, value, 0),
@@ -57,7 +73,9 @@ pub fn told_numbers(told: Told) -> (u64, u64, u64) {
 }
 
 // The number and the place of a refusal; both are 0 if there is none.
-pub fn refusal_numbers(told: Told) -> (u64, u64) {
+pub fn refusal_numbers(told: Told) -> (u64, u64)
+    ensures { result ≡ told_as_refusal told }
+{
     match told {
         Told::Refused(refusal) => (refusal.number(), refusal.place()),
         _ => (0, 0),

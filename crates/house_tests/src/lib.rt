@@ -3,11 +3,9 @@
 
 #[cfg(test)]
 mod days;
-#[cfg(test)]
 mod draft;
 #[cfg(test)]
 mod lent;
-#[cfg(test)]
 mod lent_house;
 #[cfg(test)]
 mod limits;

@@ -1,4 +1,10 @@
 // The clean build of what was just built, beside it.
+ghost use Rattle.clean.specs.Builds.{says};
+ghost use Rattle.house.specs.Desks.{desk_in, desk_size};
+ghost use Rattle.random_days.specs.Judged.{SameAnswer, told_of};
+ghost use Rattle.std.specs.Prelude.{◌≡◌, ◌+◌, ◌*◌, ◌≤◌, length, true, false, Decides, MatchResult};
+ghost use Rattle.theory.specs.Clean.{clean};
+
 use super::place::Place;
 use super::view::{LIST_SIZE, desk_items};
 use super::watched::{Watched, listed};
@@ -17,7 +23,9 @@ pub struct Beside {
 
 impl Beside {
     // Where nothing was built there is nothing to agree on.
-    pub fn no_build() -> Beside {
+    pub fn no_build() -> Beside
+        ensures { result ≡ record { rings = false; agrees = false; within = false } }
+    {
         Beside {
             rings: false,
             agrees: false,
@@ -26,7 +34,10 @@ impl Beside {
     }
 }
 
-pub fn build_clean(watched: &Watched, place: Place, told: Told) -> Beside {
+// For a desk that is there, an answer agrees only if it is that of the clean build.
+pub fn build_clean(watched: &Watched, place: Place, told: Told) -> Beside
+    ensures { desk_size watched.now.size.items * (place.desk + 1) ≤ length watched.now.desks.items → result.agrees ≡ true → SameAnswer told (told_of (says (clean (desk_in watched.now.size watched.now.desks.items place.desk) place.item))) }
+{
     let mut ran = [0; LIST_SIZE];
     let items = desk_items(watched.size, watched.desks.as_slice(), place.desk);
     let clean = told_of(clean_build(items, &mut ran, place.item));
@@ -37,8 +48,10 @@ pub fn build_clean(watched: &Watched, place: Place, told: Told) -> Beside {
     }
 }
 
-fn told_of(clean: Result<CleanAnswer, Refusal>) -> Told {
-    match clean {
+fn told_of(built: Result<CleanAnswer, Refusal>) -> Told
+    ensures { MatchResult built (λ answer. result ≡ told_of answer) (λ refusal. result ≡ Told.Refused refusal) }
+{
+    match built {
         Ok(CleanAnswer::Value(value)) => Told::Value(value),
         Ok(CleanAnswer::Ring) => Told::Ring,
         Err(refusal) => Told::Refused(refusal),
@@ -46,7 +59,9 @@ fn told_of(clean: Result<CleanAnswer, Refusal>) -> Told {
 }
 
 // Whether both are the same answer of a build.
-pub fn is_same(left: Told, right: Told) -> bool {
+pub fn is_same(left: Told, right: Told) -> bool
+    ensures { Decides result (SameAnswer left right) }
+{
     match (left, right) {
         (Told::Value(first), Told::Value(second)) => first == second,
         (Told::Ring, Told::Ring) => true,

@@ -1,20 +1,16 @@
 // Honest entries in a row: read back from the store, or recorded from a run of a script.
 use super::place::Place;
 use super::seed::Seed;
-use super::view::{View, first_of};
+use super::view::View;
 use entry::{Asking, ENTRY_SIZE, RESULT_AT};
 use machine::Registers;
-use rows::put_all;
+use rows::{front, put_all};
 use runner::{Step, run};
 use script::{MAX_ASKINGS, SCRIPT_SIZE};
 use store::entry_of;
 
 pub fn read_back(store: &[u64], index: u64, row: &mut [u64]) {
-    put_all(
-        row,
-        0,
-        first_of(entry_of(store, index as usize), ENTRY_SIZE),
-    );
+    put_all(row, 0, front(entry_of(store, index as usize), ENTRY_SIZE));
 }
 
 // Runs a script of the day on a desk's clean values, or on answers that no desk may have.

@@ -1,4 +1,7 @@
 // What the rules say will be told of a command, as far as it is known when the command is drawn.
+ghost use Rattle.random_days.specs.Judged.{Meets, first_told};
+ghost use Rattle.std.specs.Prelude.{◌≡◌, Decides};
+
 use house::Told;
 
 #[derive(Clone, Copy)]
@@ -12,14 +15,18 @@ pub enum Expected {
 
 impl Expected {
     // Of two that are checked one after the other, the first refusal is told.
-    pub fn then(self, later: Expected) -> Expected {
+    pub fn then(self, later: Expected) -> Expected
+        ensures { result ≡ first_told self later }
+    {
         match self {
             Expected::Performed => later,
             _ => self,
         }
     }
 
-    pub fn meets(self, told: Told) -> bool {
+    pub fn meets(self, told: Told) -> bool
+        ensures { Decides result (Meets self told) }
+    {
         match (self, told) {
             (Expected::Open, _) => true,
             (Expected::Refused { number, place }, Told::Refused(refusal)) => {

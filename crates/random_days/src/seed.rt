@@ -1,5 +1,5 @@
 // Random numbers that hang on a seed and a place alone (splitmix64), so that nothing is changed by drawing one.
-ghost use Rattle.std.specs.Prelude.{◌≡◌, ◌<◌};
+ghost use Rattle.std.specs.Prelude.{◌≡◌, ◌<◌, ◌≤◌, true, false};
 
 const STEP: u64 = 0x9E37_79B9_7F4A_7C15;
 
@@ -35,13 +35,19 @@ impl Seed {
     }
 
     // A number from `low` to `high`.
-    pub fn between(self, low: u64, high: u64) -> u64 {
+    pub fn between(self, low: u64, high: u64) -> u64
+        ensures low { low ≤ result }
+        ensures high { low ≤ high → result ≤ high }
+    {
         let more = high.saturating_sub(low).saturating_add(1);
         low.saturating_add(self.below(more))
     }
 
     // True about so many times in a hundred.
-    pub fn percent(self, chance: u64) -> bool {
+    pub fn percent(self, chance: u64) -> bool
+        ensures never { chance ≡ 0 → result ≡ false }
+        ensures always { 100 ≤ chance → result ≡ true }
+    {
         self.below(100) < chance
     }
 }

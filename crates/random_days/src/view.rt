@@ -1,11 +1,15 @@
 // What can be seen of a house while its next command is drawn.
+ghost use Rattle.house.specs.Desks.{desk_in, desk_part, desk_size};
+ghost use Rattle.std.specs.Prelude.{◌≡◌, ◌+◌, ◌-◌, ◌*◌, ◌^◌, ◌≤◌, ◌⊎◌, length, IfSome};
+ghost use Rattle.theory.specs.Clean.{clean, value};
+
 use super::place::Place;
 use super::pool::Pool;
 use super::seed::Seed;
 use clean::{CleanAnswer, clean_build};
 use house::HouseSize;
 use items::{ITEM_SIZE, MAX_ITEMS};
-use rows::tail;
+use rows::{front, tail};
 
 // Numbers of the longest list, with its length.
 pub const LIST_SIZE: usize = 1 + MAX_ITEMS;
@@ -20,7 +24,9 @@ pub struct View<'a> {
 
 impl View<'_> {
     // A small number, so that answers repeat and name items; seldom one that makes sums wrap.
-    pub fn draw_value(self, seed: Seed) -> u64 {
+    pub fn draw_value(self, seed: Seed) -> u64
+        ensures { (result ≡ 2 ^ 64 - 1) ⊎ (result ≤ self.entry.size.items) }
+    {
         if seed.at(0).percent(2) {
             return u64::MAX;
         }
@@ -28,7 +34,9 @@ impl View<'_> {
     }
 
     // The clean value of an item, if it has one.
-    pub fn clean_value(self, place: Place) -> Option<u64> {
+    pub fn clean_value(self, place: Place) -> Option<u64>
+        ensures { desk_size self.entry.size.items * (place.desk + 1) ≤ length self.entry.desks.now → IfSome result (λ v. clean (desk_in self.entry.size self.entry.desks.now place.desk) place.item ≡ value v) }
+    {
         let mut ran = [0; LIST_SIZE];
         let items = desk_items(self.size, self.desks, place.desk);
         match clean_build(items, &mut ran, place.item) {
@@ -39,15 +47,12 @@ impl View<'_> {
 }
 
 // The desk's own part of the row of desks.
-pub fn desk_items(size: HouseSize, desks: &[u64], desk: u64) -> &[u64] {
+pub fn desk_items(size: HouseSize, desks: &[u64], desk: u64) -> &[u64]
+    ensures { desk_size size.items * (desk + 1) ≤ length desks.now → result.now ≡ desk_part size desks.now desk }
+{
     let numbers = ITEM_SIZE
         .saturating_mul(size.items as usize)
         .saturating_add(1);
     let rest = tail(desks, numbers.saturating_mul(desk as usize));
-    first_of(rest, numbers)
-}
-
-pub fn first_of(row: &[u64], count: usize) -> &[u64] {
-    let length = count.min(row.len());
-    &row[0..length]
+    front(rest, numbers)
 }

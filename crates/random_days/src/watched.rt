@@ -1,8 +1,13 @@
 // The rows of a house, and as they were before its last command.
-use super::view::{LIST_SIZE, first_of};
+ghost use Rattle.house.specs.Deeds.{deed_of};
+ghost use Rattle.house.specs.Desks.{new_desks};
+ghost use Rattle.house.specs.Performed.{PerformedSo};
+ghost use Rattle.std.specs.Prelude.{◌≡◌, ◌+◌, ◌^◌, ◌<◌, ◌≤◌, length, replicate, true, IfOk, take, drop, slice_index, Decides};
+
+use super::view::LIST_SIZE;
 use entry::ENTRY_SIZE;
 use house::{Command, HouseSize, Told, new_desks};
-use rows::{number_after, tail};
+use rows::{front, number_after, tail};
 use std::alloc::{AllocError, Global};
 use store::{empty_store, entry_count, entry_of};
 
@@ -35,19 +40,25 @@ pub struct Seen {
 }
 
 impl Seen {
-    pub fn same_all(self) -> bool {
+    pub fn same_all(self) -> bool
+        ensures { Decides result ((self.same_desks ≡ true) × (self.same_store ≡ true) × (self.same_ran ≡ true)) }
+    {
         self.same_desks && self.same_store && self.same_ran
     }
 
     // How many entries there are if a build keeps all that it ran.
-    pub fn due(self) -> u64 {
+    pub fn due(self) -> u64
+        ensures { self.old_count + self.listed < 2 ^ 64 → result ≡ self.old_count + self.listed }
+    {
         self.old_count.saturating_add(self.listed)
     }
 }
 
 impl Watched {
     // As a day begins.
-    pub fn new(heap: Global, size: HouseSize) -> Result<Watched, AllocError> {
+    pub fn new(heap: Global, size: HouseSize) -> Result<Watched, AllocError>
+        ensures { IfOk result (λ w. (w.size ≡ size) × (w.desks.items ≡ new_desks size) × (w.old_desks.items ≡ w.desks.items) × (w.old_store.items ≡ w.store.items)) }
+    {
         Ok(Watched {
             size,
             desks: new_desks(heap, size)?,
@@ -59,7 +70,12 @@ impl Watched {
         })
     }
 
-    pub fn perform(&mut self, command: &Command) -> Told {
+    pub fn perform(&mut self, command: &Command) -> Told
+        ensures performed { PerformedSo self.old.size (deed_of command.now) self.old.desks.items self.old.store.items self.old.ran result self.new.desks.items self.new.store.items self.new.ran }
+        ensures desks { length self.old.old_desks.items ≡ length self.old.desks.items → self.new.old_desks.items ≡ self.old.desks.items }
+        ensures store { length self.old.old_store.items ≡ length self.old.store.items → self.new.old_store.items ≡ self.old.store.items }
+        ensures ran { self.new.old_ran ≡ self.old.ran }
+    {
         self.keep();
         command.perform(
             self.size,
@@ -69,13 +85,23 @@ impl Watched {
         )
     }
 
-    fn keep(&mut self) {
+    fn keep(&mut self)
+        ensures rows { (self.new.size ≡ self.old.size) × (self.new.desks.items ≡ self.old.desks.items) × (self.new.store.items ≡ self.old.store.items) × (self.new.ran ≡ self.old.ran) }
+        ensures desks { length self.old.old_desks.items ≡ length self.old.desks.items → self.new.old_desks.items ≡ self.old.desks.items }
+        ensures store { length self.old.old_store.items ≡ length self.old.store.items → self.new.old_store.items ≡ self.old.store.items }
+        ensures ran { self.new.old_ran ≡ self.old.ran }
+    {
         copy_row(self.old_desks.as_mut_slice(), self.desks.as_slice());
         copy_row(self.old_store.as_mut_slice(), self.store.as_slice());
         self.old_ran = self.ran;
     }
 
-    pub fn look(&self) -> Seen {
+    pub fn look(&self) -> Seen
+        ensures desks { Decides result.same_desks (self.now.desks.items ≡ self.now.old_desks.items) }
+        ensures store { Decides result.same_store (self.now.store.items ≡ self.now.old_store.items) }
+        ensures ran { Decides result.same_ran (self.now.ran ≡ self.now.old_ran) }
+        ensures in_room { Decides result.in_room ((slice_index self.now.store.items 1 ≡ self.now.size.room) × (result.count ≤ self.now.size.room)) }
+    {
         let store = self.store.as_slice();
         let old_store = self.old_store.as_slice();
         let old_count = entry_count(old_store);
@@ -95,7 +121,9 @@ impl Watched {
     }
 }
 
-fn copy_row(to: &mut [u64], from: &[u64]) {
+fn copy_row(to: &mut [u64], from: &[u64])
+    ensures { length to.old ≡ length from.now → to.new ≡ from.now }
+{
     if to.len() == from.len() {
         to.copy_from_slice(from);
     }
@@ -103,13 +131,15 @@ fn copy_row(to: &mut [u64], from: &[u64]) {
 
 // The numbers of the first so many entries.
 fn entries(store: &[u64], count: u64) -> &[u64] {
-    first_of(
+    front(
         entry_of(store, 0),
         ENTRY_SIZE.saturating_mul(count as usize),
     )
 }
 
 // The list that stands in a row behind its length.
-pub fn listed(ran: &[u64]) -> &[u64] {
-    first_of(tail(ran, 1), number_after(ran, 0, 0) as usize)
+pub fn listed(ran: &[u64]) -> &[u64]
+    ensures { result.now ≡ take (slice_index ran.now 0) (drop 1 ran.now) }
+{
+    front(tail(ran, 1), number_after(ran, 0, 0) as usize)
 }

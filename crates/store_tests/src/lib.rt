@@ -3,7 +3,6 @@
 
 #[cfg(test)]
 mod commands;
-#[cfg(test)]
 mod examples;
 #[cfg(test)]
 mod foreign;
