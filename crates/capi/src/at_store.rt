@@ -33,9 +33,9 @@ pub extern "C" fn rupdaem_import(
     ran: &mut [u64],
     lines: &[u64],
     askings: &[u64],
-    res: u64,
+    given: u64,
 ) -> Outcome
-    ensures { PerformedOrShort (size_of size.now) (bring (lines_from lines.now) (askings_from askings.now) res) desks.old rows.old ran.old result desks.new rows.new ran.new }
+    ensures { PerformedOrShort (size_of size.now) (bring (lines_from lines.now) (askings_from askings.now) given) desks.old rows.old ran.old result desks.new rows.new ran.new }
 {
     let Ok(lines) = read_lines(heap, lines) else {
         return no_memory();
@@ -46,7 +46,7 @@ pub extern "C" fn rupdaem_import(
     let command = Command::Import {
         lines,
         askings,
-        result: res,
+        result: given,
     };
     outcome_of(command.perform(house_size(size), desks, rows, ran))
 }

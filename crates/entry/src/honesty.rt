@@ -26,8 +26,8 @@ pub fn replay(entry: &[u64]) -> Result<(), u64>
     )
 }
 
-fn replay_parts(script: &[u64], askings: &[u64], res: u64) -> Result<(), u64>
-    ensures { result_err result ≡ differs 0 (task_of (script_in script.now)) (askings_in askings.now) res }
+fn replay_parts(script: &[u64], askings: &[u64], given: u64) -> Result<(), u64>
+    ensures { result_err result ≡ differs 0 (task_of (script_in script.now)) (askings_in askings.now) given }
 {
     let count = asking_count(askings);
     let mut registers = Registers::new();
@@ -44,7 +44,7 @@ fn replay_parts(script: &[u64], askings: &[u64], res: u64) -> Result<(), u64>
     let Step::Gives(value) = run(script, registers) else {
         return Err(count as u64);
     };
-    if value == res {
+    if value == given {
         Ok(())
     } else {
         Err(count as u64)

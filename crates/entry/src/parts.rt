@@ -12,23 +12,23 @@ use script::{MAX_ASKINGS, MAX_LINES, SCRIPT_SIZE, SourceLine};
 use script_rows::write_source;
 
 // A row of another size, or for more lines or askings than an entry has room for, is left as it was.
-pub fn write_from_parts(row: &mut [u64], lines: &[SourceLine], askings: &[Asking], res: u64)
-    ensures { row.new ≡ (if nat_eq (length row.old) entry_size && (nat_le (length lines.now) max_lines && nat_le (length askings.now) max_askings) then entry_out (entry_of lines.now askings.now res) else row.old) }
+pub fn write_from_parts(row: &mut [u64], lines: &[SourceLine], askings: &[Asking], given: u64)
+    ensures { row.new ≡ (if nat_eq (length row.old) entry_size && (nat_le (length lines.now) max_lines && nat_le (length askings.now) max_askings) then entry_out (entry_of lines.now askings.now given) else row.old) }
 {
     if row.len() == ENTRY_SIZE && lines.len() <= MAX_LINES && askings.len() <= MAX_ASKINGS {
-        write_fitting(row, lines, askings, res);
+        write_fitting(row, lines, askings, given);
     }
 }
 
-fn write_fitting(row: &mut [u64], lines: &[SourceLine], askings: &[Asking], res: u64)
+fn write_fitting(row: &mut [u64], lines: &[SourceLine], askings: &[Asking], given: u64)
     requires long { length row.old ≡ entry_size }
     requires lines { length lines.now ≤ max_lines }
     requires askings { length askings.now ≤ max_askings }
-    ensures { row.new ≡ entry_out (entry_of lines.now askings.now res) }
+    ensures { row.new ≡ entry_out (entry_of lines.now askings.now given) }
 {
     write_source(&mut row[0..SCRIPT_SIZE], lines);
     write_asked(&mut row[SCRIPT_SIZE..RESULT_AT], askings);
-    row[RESULT_AT] = res;
+    row[RESULT_AT] = given;
 }
 
 fn write_asked(row: &mut [u64], askings: &[Asking])

@@ -12,23 +12,23 @@ use script_rows::write_script;
 
 // Sets every number of the row to the entry of this script, these askings and this result; a row of another size is left as it was.
 // A row in form whose parts are handed in is written again as it was.
-pub fn write_entry(row: &mut [u64], script: &[u64], askings: &[u64], res: u64)
-    ensures after { row.new ≡ (if nat_eq (length row.old) entry_size then entry_out (entry_from script.now askings.now res) else row.old) }
-    ensures reads_back { length row.old ≡ entry_size → entry_in row.new ≡ entry_from script.now askings.now res }
-    ensures copies { (xs : List ℕ) → InForm xs → length row.old ≡ entry_size → entry_from script.now askings.now res ≡ entry_in xs → row.new ≡ xs }
+pub fn write_entry(row: &mut [u64], script: &[u64], askings: &[u64], given: u64)
+    ensures after { row.new ≡ (if nat_eq (length row.old) entry_size then entry_out (entry_from script.now askings.now given) else row.old) }
+    ensures reads_back { length row.old ≡ entry_size → entry_in row.new ≡ entry_from script.now askings.now given }
+    ensures copies { (xs : List ℕ) → InForm xs → length row.old ≡ entry_size → entry_from script.now askings.now given ≡ entry_in xs → row.new ≡ xs }
 {
     if row.len() == ENTRY_SIZE {
-        write_parts(row, script, askings, res);
+        write_parts(row, script, askings, given);
     }
 }
 
-fn write_parts(row: &mut [u64], script: &[u64], askings: &[u64], res: u64)
+fn write_parts(row: &mut [u64], script: &[u64], askings: &[u64], given: u64)
     requires { length row.old ≡ entry_size }
-    ensures { row.new ≡ entry_out (entry_from script.now askings.now res) }
+    ensures { row.new ≡ entry_out (entry_from script.now askings.now given) }
 {
     write_script(&mut row[0..SCRIPT_SIZE], script);
     write_askings(&mut row[SCRIPT_SIZE..RESULT_AT], askings);
-    row[RESULT_AT] = res;
+    row[RESULT_AT] = given;
 }
 
 fn write_askings(row: &mut [u64], askings: &[u64])

@@ -1,5 +1,5 @@
 // The desks of a house in their row: one behind the other, each the row of its items.
-ghost use Rattle.std.specs.Prelude.{◌≡◌, ◌+◌, ◌*◌, ◌&&◌, ltb, ◌++◌, IfOk, if◌then◌else◌, Some, None, OnOk, nat_le};
+ghost use Rattle.std.specs.Prelude.{◌≡◌, ◌+◌, ◌*◌, ◌&&◌, ◌++◌, IfOk, if◌then◌else◌, Some, None, OnOk, nat_le, nat_lt};
 ghost use Rattle.house.specs.Desks.{desk_size, has_desk, new_desk, new_desks};
 
 use super::size::HouseSize;
@@ -16,7 +16,7 @@ pub struct Span {
 
 // Where desk `desk` stands in a row of this length, if the row has all its numbers.
 pub fn desk_span(size: HouseSize, length: usize, desk: u64) -> Option<Span>
-    ensures { result ≡ (if ltb desk size.desks && nat_le (desk_size size.items * (desk + 1)) length then Some (record { start = desk_size size.items * desk; end = desk_size size.items * (desk + 1) }) else None) }
+    ensures { result ≡ (if nat_lt desk size.desks && nat_le (desk_size size.items * (desk + 1)) length then Some (record { start = desk_size size.items * desk; end = desk_size size.items * (desk + 1) }) else None) }
 {
     if desk >= size.desks {
         return None;

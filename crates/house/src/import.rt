@@ -22,28 +22,28 @@ pub fn import(
     rows: &mut [u64],
     lines: &[SourceLine],
     askings: &[Asking],
-    res: u64,
+    given: u64,
 ) -> Result<(), Refusal>
-    ensures fault { result_err result ≡ bring_fault rows.old lines.now askings.now res }
-    ensures after { rows.new ≡ (if is_ok result then added rows.old (entry_of lines.now askings.now res) else rows.old) }
+    ensures fault { result_err result ≡ bring_fault rows.old lines.now askings.now given }
+    ensures after { rows.new ≡ (if is_ok result then added rows.old (entry_of lines.now askings.now given) else rows.old) }
 {
     check_script(lines)?;
     check_askings(askings)?;
-    admit(rows, lines, askings, res)
+    admit(rows, lines, askings, given)
 }
 
 fn admit(
     rows: &mut [u64],
     lines: &[SourceLine],
     askings: &[Asking],
-    res: u64,
+    given: u64,
 ) -> Result<(), Refusal>
     requires lines { length lines.now ≤ max_lines }
     requires askings { length askings.now ≤ max_askings }
-    ensures fault { result_err result ≡ or_else (option_map NotHonest (difference (entry_of lines.now askings.now res))) (add_fault rows.old) }
-    ensures after { rows.new ≡ (if is_ok result then added rows.old (entry_of lines.now askings.now res) else rows.old) }
+    ensures fault { result_err result ≡ or_else (option_map NotHonest (difference (entry_of lines.now askings.now given))) (add_fault rows.old) }
+    ensures after { rows.new ≡ (if is_ok result then added rows.old (entry_of lines.now askings.now given) else rows.old) }
 {
     let mut row = [0; ENTRY_SIZE];
-    write_from_parts(&mut row, lines, askings, res);
+    write_from_parts(&mut row, lines, askings, given);
     admit_entry(rows, &row)
 }

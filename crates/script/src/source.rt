@@ -1,7 +1,7 @@
 // A line as it comes from outside, which may be no line at all, and the checks that let it in.
 ghost use Rattle.script.specs.Allowed.{counted_as, first_source, line_fault, registers_known, skip_of, source_line};
 ghost use Rattle.script.specs.Layout.{max_skip};
-ghost use Rattle.std.specs.Prelude.{◌≡◌, ltb, drop, IfOk, if◌then◌else◌, Some, None, nat_lt};
+ghost use Rattle.std.specs.Prelude.{◌≡◌, drop, IfOk, if◌then◌else◌, Some, None, nat_lt};
 ghost use Rattle.std.specs.Result.{result_err};
 
 use super::layout::{MAX_SKIP, REGISTERS};
@@ -99,7 +99,7 @@ fn with_known_registers(line: Line) -> Option<Line>
 
 // The line, if it does not leave out too many.
 fn with_short_skip(line: Line) -> Option<Line>
-    ensures { result ≡ (if ltb max_skip (skip_of line) then None else Some line) }
+    ensures { result ≡ (if nat_lt max_skip (skip_of line) then None else Some line) }
 {
     match line {
         Line::Unless { skip, .. } if skip > MAX_SKIP => None,

@@ -61,5 +61,5 @@ fn same_whole_line(left: &[u64], right: &[u64], at: usize) -> bool
 fn same_cut_line(left: &[u64], right: &[u64], at: usize) -> bool
     ensures { Decides result (line_at left.now at ≡ line_at right.now at) }
 {
-    Line::read(left, at).numbers() == Line::read(right, at).numbers()
+    Line::read(left, at) == Line::read(right, at)
 }

@@ -1,5 +1,5 @@
 -- How a store stands in its row: the count kept, the room, and then the entries. Assumes nothing: these are definitions.
-use Rattle.std.specs.Prelude.{◌≡◌, ℕ, ◌+◌, ◌-◌, ◌*◌, ◌≤◌, List, [], ◌∷◌, ◌++◌, take, drop, set, replicate, slice_index, slice_set}
+use Rattle.std.specs.Prelude.{◌≡◌, ℕ, ◌+◌, ◌-◌, ◌*◌, ◌≤◌, List, [], ◌∷◌, ◌++◌, take, drop, replicate, slice_index, slice_set}
 use Rattle.rows.specs.Rows.{chunks}
 use Rattle.entry.specs.Entry.{Entry}
 use Rattle.entry.specs.Layout.{entry_size}
@@ -25,7 +25,7 @@ added rows e = slice_set (take (entry_at (count_of rows)) rows ++ (entry_out e +
 -- the row without entry i: the later ones move up, and the place that is freed holds 0
 abbrev pub removed : List ℕ → ℕ → List ℕ
 removed rows i =
-    set
+    slice_set
     (take (entry_at i) rows
     ++ (take (entry_size * (count_of rows - 1 - i)) (drop (entry_at (i + 1)) rows) ++ (replicate entry_size 0 ++ drop (entry_at (count_of rows)) rows)))
     0 (count_of rows - 1)

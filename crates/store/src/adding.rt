@@ -13,12 +13,17 @@ use script::{Refusal, SCRIPT_SIZE};
 use script_checks::check_script_row;
 
 // Adds what one run left: its script and its askings, each in a row, and its result.
-pub fn add_entry(rows: &mut [u64], script: &[u64], askings: &[u64], res: u64) -> Result<(), Refusal>
+pub fn add_entry(
+    rows: &mut [u64],
+    script: &[u64],
+    askings: &[u64],
+    given: u64,
+) -> Result<(), Refusal>
     ensures fault { result_err result ≡ add_fault rows.old }
-    ensures after { rows.new ≡ (if is_ok result then added rows.old (entry_from script.now askings.now res) else rows.old) }
-    ensures grown { OnOk result (Grown rows.old rows.new (entry_from script.now askings.now res)) }
+    ensures after { rows.new ≡ (if is_ok result then added rows.old (entry_from script.now askings.now given) else rows.old) }
+    ensures grown { OnOk result (Grown rows.old rows.new (entry_from script.now askings.now given)) }
 {
-    add_checked(rows, script, askings, res)
+    add_checked(rows, script, askings, given)
 }
 
 // Imports an entry in a row from elsewhere: its script line by line, its count of askings, and then as `admit_entry` does.
@@ -39,13 +44,13 @@ pub fn admit_entry(rows: &mut [u64], entry: &[u64]) -> Result<(), Refusal>
     admit_checked(rows, entry)
 }
 
-fn add_checked(rows: &mut [u64], script: &[u64], askings: &[u64], res: u64) -> Result<(), Refusal>
+fn add_checked(rows: &mut [u64], script: &[u64], askings: &[u64], given: u64) -> Result<(), Refusal>
     ensures fault { result_err result ≡ add_fault rows.old }
-    ensures after { rows.new ≡ (if is_ok result then added rows.old (entry_from script.now askings.now res) else rows.old) }
+    ensures after { rows.new ≡ (if is_ok result then added rows.old (entry_from script.now askings.now given) else rows.old) }
 {
     check_room(rows)?;
     check_store(rows)?;
-    append(rows, script, askings, res);
+    append(rows, script, askings, given);
     Ok(())
 }
 
@@ -78,13 +83,13 @@ fn check_room(rows: &[u64]) -> Result<(), Refusal>
 }
 
 // Writes the entry into the part of the row behind those that are kept.
-fn append(rows: &mut [u64], script: &[u64], askings: &[u64], res: u64)
+fn append(rows: &mut [u64], script: &[u64], askings: &[u64], given: u64)
     requires room { count_of rows.old < room_of rows.old }
     requires long { entry_at (room_of rows.old) ≤ length rows.old }
-    ensures { rows.new ≡ added rows.old (entry_from script.now askings.now res) }
+    ensures { rows.new ≡ added rows.old (entry_from script.now askings.now given) }
 {
     let count = number_after(rows, COUNT_AT, 0);
     let start = ENTRIES_AT + ENTRY_SIZE * count as usize;
-    write_entry(&mut rows[start..start + ENTRY_SIZE], script, askings, res);
+    write_entry(&mut rows[start..start + ENTRY_SIZE], script, askings, given);
     rows[COUNT_AT] = count + 1;
 }

@@ -31,7 +31,7 @@ fn import(
     lines: &[SourceLine],
     count: usize,
     answer: u64,
-    res: u64,
+    given: u64,
 ) -> Result<Command, AllocError> {
     let mut askings = Vec::new(heap);
     for _ in 0..count {
@@ -40,7 +40,7 @@ fn import(
     Ok(Command::Import {
         lines: Vec::from_slice(heap, lines)?,
         askings,
-        result: res,
+        result: given,
     })
 }
 

@@ -12,10 +12,10 @@ pub const ECHO: [[u64; 4]; 2] = [[0, 0, 3, 0], [5, 0, 0, 0]];
 pub const SUM: [[u64; 4]; 4] = [[0, 0, 0, 0], [0, 1, 1, 0], [3, 2, 0, 1], [5, 2, 0, 0]];
 
 // The row of an entry. The counts are as given, also above 32; of the lines and of the askings the first 32 are written.
-pub fn entry_row(lines: &[[u64; 4]], askings: &[[u64; 2]], res: u64) -> [u64; 195]
+pub fn entry_row(lines: &[[u64; 4]], askings: &[[u64; 2]], given: u64) -> [u64; 195]
     ensures lines { slice_index result 0 ≡ length lines.now }
     ensures askings { slice_index result 129 ≡ length askings.now }
-    ensures end { slice_index result 194 ≡ res }
+    ensures end { slice_index result 194 ≡ given }
 {
     let mut row = [0; 195];
     row[0] = lines.len() as u64;
@@ -38,7 +38,7 @@ pub fn entry_row(lines: &[[u64; 4]], askings: &[[u64; 2]], res: u64) -> [u64; 19
             place += 2;
         }
     }
-    row[194] = res;
+    row[194] = given;
     row
 }
 

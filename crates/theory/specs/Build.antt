@@ -1,5 +1,5 @@
 -- When an entry may stand for a run, and what a build over a store answers, runs and leaves. Assumes nothing: these are definitions.
-use Rattle.std.specs.Prelude.{◌≡◌, ℕ, ◌-◌, ◌<◌, List, [], ◌∷◌, ◌++◌, length, get_or, take, slice_index_or}
+use Rattle.std.specs.Prelude.{◌≡◌, ℕ, ◌-◌, ◌<◌, List, [], ◌∷◌, ◌++◌, length, take, slice_index_or}
 use Rattle.script.specs.Rule.{Script, Value, task_of}
 use Rattle.entry.specs.Entry.{Entry, no_asking, no_entry}
 use Rattle.theory.specs.Clean.{Makes, Out, Reached, Runs, clean}
@@ -7,7 +7,7 @@ use Rattle.theory.specs.Items.{Item, item, made}
 
 -- the answer that an entry names at place i is the value of the item that it names there
 abbrev pub RightAt : List Item → Entry → ℕ → Type 0
-RightAt d e i = Makes d (get_or e.asked i no_asking).item (get_or e.asked i no_asking).answer
+RightAt d e i = Makes d (slice_index_or e.asked i no_asking).item (slice_index_or e.asked i no_asking).answer
 
 -- every answer that it remembers is still the answer
 abbrev pub Usable : List Item → Entry → Type 0
@@ -17,7 +17,7 @@ Usable d e = (i : ℕ) → i < length e.asked → RightAt d e i
 pub record Saved (d : List Item) (es : List Entry) (j : ℕ) : Type 0 where
   pub place : ℕ
   pub kept : place < length es
-  pub its : item d j ≡ made (get_or es place no_entry).script
+  pub its : item d j ≡ made (slice_index_or es place no_entry).script
   pub usable : Usable d (slice_index_or es place no_entry)
 
 pub data Rising : List ℕ → Type 0 where

@@ -32,13 +32,13 @@ returns-in_default-run c =
     let end : c.asking_count-count.result ≡ c.loop-index.index = omega arith in
     ap Some end ∙ asks_more c.loop-index.invariant past _ _ c.in_default-run.ensures.step
 
-pub returns-then-value-res : goal.returns-then-value-res
-returns-then-value-res c =
+pub returns-then-value-given : goal.returns-then-value-given
+returns-then-value-given c =
     let past : length (askings_in c.args.askings.now) ≤ c.loop-index.index = rw c.asking_count-count.ensures.value at c.loop-index-test.false in
-    sym (cond-true _ _ _ (eq-eqb _ _ c.if-value-res.true)) ∙ gives c.loop-index.invariant past _ c.in-Gives.ensures.step
+    sym (cond-true _ _ _ (eq-eqb _ _ c.if-value-given.true)) ∙ gives c.loop-index.invariant past _ c.in-Gives.ensures.step
 
-pub returns-else-value-res : goal.returns-else-value-res
-returns-else-value-res c =
+pub returns-else-value-given : goal.returns-else-value-given
+returns-else-value-given c =
     let past : length (askings_in c.args.askings.now) ≤ c.loop-index.index = rw c.asking_count-count.ensures.value at c.loop-index-test.false in
     let end : c.asking_count-count.result ≡ c.loop-index.index = omega arith in
-    ap Some end ∙ sym (cond-false _ _ _ (ne_eqb _ _ c.if-value-res.false)) ∙ gives c.loop-index.invariant past _ c.in-Gives.ensures.step
+    ap Some end ∙ sym (cond-false _ _ _ (ne_eqb _ _ c.if-value-given.false)) ∙ gives c.loop-index.invariant past _ c.in-Gives.ensures.step

@@ -13,5 +13,5 @@ returns c =
     let lines = c.args.lines.now in
     let few : length (map counted_as lines) ≤ max_lines = omega (arith, length-map lines counted_as, c.requires.lines) in
     let part : length (take script_size row) ≡ script_size = length-take-le script_size row (omega (arith, c.requires.long)) in
-    laid (entry_of lines c.args.askings.now c.args.res) (few, c.requires.askings) row _ _ c.requires.long
+    laid (entry_of lines c.args.askings.now c.args.given) (few, c.requires.askings) row _ _ c.requires.long
     (c.write_source.ensures ∙ cond-true _ _ _ (and_from _ _ (eq-eqb _ _ part) (le-leb _ _ c.requires.lines))) c.write_asked.ensures

@@ -13,4 +13,4 @@ returns c =
     let script = c.args.script.now in
     let askings = c.args.askings.now in
     let part : length (take script_size row) ≡ script_size = length-take-le script_size row (omega arith) in
-    laid (entry_from script askings c.args.res) (fitting script askings c.args.res) row _ _ c.requires (c.write_script.ensures ∙ cond-true _ _ _ (eq-eqb _ _ part)) c.write_askings.ensures
+    laid (entry_from script askings c.args.given) (fitting script askings c.args.given) row _ _ c.requires (c.write_script.ensures ∙ cond-true _ _ _ (eq-eqb _ _ part)) c.write_askings.ensures

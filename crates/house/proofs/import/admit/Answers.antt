@@ -16,7 +16,7 @@ pub returns : goal.returns
 returns c =
     let rows = c.args.rows.now in
     let lines = c.args.lines.now in
-    let e = entry_of lines c.args.askings.now c.args.res in
+    let e = entry_of lines c.args.askings.now c.args.given in
     let few : length (map counted_as lines) ≤ max_lines = omega (arith, length-map lines counted_as, c.requires.lines) in
     let written = c.write_from_parts.ensures ∙ cond-true _ _ _ (and_from _ _ refl (and_from _ _ (le-leb _ _ c.requires.lines) (le-leb _ _ c.requires.askings))) in
     let same = ap entry_in written ∙ entry_back e (few, c.requires.askings) in

@@ -9,5 +9,5 @@ returns c =
     record {
       fault = told.fault;
       after = told.after;
-      grown = grows c.args.rows.now c.add_checked.result _ (fitting c.args.script.now c.args.askings.now c.args.res) (λ fine. sym told.fault ∙ fine) told.after;
+      grown = grows c.args.rows.now c.add_checked.result _ (fitting c.args.script.now c.args.askings.now c.args.given) (λ fine. sym told.fault ∙ fine) told.after;
     }
