@@ -4,8 +4,10 @@
 ghost use Rattle.std.specs.Prelude.{◌≡◌, ◌≤◌, length};
 ghost use Rattle.items.specs.Rows.{ReadsFirst, ReadsItem, items_in};
 
+mod ring;
 mod writing;
 
+pub use ring::Ring;
 use rows::{number_after, tail};
 pub use writing::{has_item, write_made, write_value};
 
