@@ -8,7 +8,7 @@ use rows::{number_after, put_all};
 use script::MAX_ASKINGS;
 
 // The item that was asked for, and the answer.
-#[derive(Clone, Copy)]
+#[derive(Clone, Copy, PartialEq, Debug)]
 pub struct Asking {
     pub item: u64,
     pub answer: u64,

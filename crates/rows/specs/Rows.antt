@@ -8,7 +8,7 @@ written_at row at [] = row
 written_at row at (n ∷ ns) = written_at (slice_set row at n) (at + 1) ns
 
 -- pieces of one length that stand one behind the other, each read from its first number on
-unfoldable pub chunks : {X : Type 0} → (List ℕ → X) → ℕ → ℕ → List ℕ → List X
+unfoldable pub chunks : {A X : Type 0} → (List A → X) → ℕ → ℕ → List A → List X
 chunks read size zero xs = []
 chunks read size (suc n) xs = read xs ∷ chunks read size n (drop size xs)
 

@@ -4,7 +4,11 @@
 ghost use Rattle.std.specs.Prelude.{◌≡◌, ◌+◌, ◌-◌, ◌<◌, ◌≤◌, ◌++◌, length, take, drop, replicate, MatchOption, OnOk, slice_index, slice_set};
 ghost use Rattle.rows.specs.Rows.{written_at};
 
+mod row_parts;
+
+pub use row_parts::{RowParts, parts};
 use std::alloc::AllocError;
+use std::iter::repeat_n;
 
 // The part of a row from `at` on, of which there may be nothing.
 pub fn tail<T>(row: &[T], at: usize) -> &[T]
@@ -69,10 +73,5 @@ pub fn clear_from(row: &mut [u64], at: usize)
 pub fn push_zeros(row: &mut Vec<u64>, count: usize) -> Result<(), AllocError>
     ensures { OnOk result (row.new.items ≡ row.old.items ++ replicate count 0) }
 {
-    let mut pushed = 0;
-    while pushed < count {
-        row.push(0)?;
-        pushed += 1;
-    }
-    Ok(())
+    row.extend(repeat_n(0, count))
 }

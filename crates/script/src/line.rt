@@ -19,7 +19,7 @@ const UNLESS: u64 = 4;
 const GIVE: u64 = 5;
 
 // Registers are numbered from 0; a row from elsewhere may name one that is not there.
-#[derive(Clone, Copy, PartialEq)]
+#[derive(Clone, Copy, PartialEq, Debug)]
 pub enum Line {
     // Asks for an item; the register becomes the answer.
     Ask {

@@ -3,7 +3,7 @@ ghost use Rattle.std.specs.Prelude.{◌≡◌};
 ghost use Rattle.script.specs.Refusals.{number_of, place_of};
 
 // Each variant holds its place, except where the place is always the limit itself.
-#[derive(Clone, Copy)]
+#[derive(Clone, Copy, PartialEq, Debug)]
 pub enum Refusal {
     // The command's kind is unknown, or its bytes end early; at its first byte.
     Unreadable { at: u64 },

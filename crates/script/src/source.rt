@@ -12,7 +12,7 @@ use rows::number_after;
 // The highest kind that a line has.
 const LAST_KIND: u64 = 5;
 
-#[derive(Clone, Copy)]
+#[derive(Clone, Copy, PartialEq, Debug)]
 pub enum SourceLine {
     Known(Line),
     // A kind that no line has. Its register is kept, since such a line counts as kind 5 where it is run.

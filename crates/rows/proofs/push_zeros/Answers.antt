@@ -1,9 +1,9 @@
-use Rattle.std.proofs.Common.{[], ◌∷◌, ◌++◌, replicate, vec_items, ap, ◌∙◌, arith}
-use Rattle.std.proofs.lemmas.List.{append_assoc, replicate_more}
+use Rattle.std.proofs.Common.{◌≡◌, rules}
+use Rattle.std.proofs.lemmas.Iterator.Adapters.{YieldsList-from_repeat_n, items_from_extend}
 use Rattle.rows.proofs.push_zeros.Goals as goal
 
-pub loop-pushed-preserved : goal.loop-pushed-preserved
-loop-pushed-preserved c = (
-  c.in_ok-push.ensures.items ∙ ap (λ xs. xs ++ 0 ∷ []) c.loop-pushed.invariant.0 ∙ append_assoc (vec_items c.args.row.now) (replicate c.loop-pushed.pushed 0) (0 ∷ []) ∙ ap (λ zs. vec_items c.args.row.now ++ zs) (replicate_more c.loop-pushed.pushed 0),
-  omega arith,
-)
+pub returns : goal.returns
+returns c =
+    let zeros = YieldsList-from_repeat_n (λ x y. y ≡ x) c.args.count 0 c.repeat_n.ensures.count c.repeat_n.ensures.item (λ y e. e) in
+    let put = items_from_extend c.extend.result c.extend.ensures.ran zeros in
+    search rules
