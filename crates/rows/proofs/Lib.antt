@@ -1,4 +1,5 @@
 pub mod Chunks
 pub mod Counted
 pub mod Over
+pub mod PartChains
 pub mod Written
