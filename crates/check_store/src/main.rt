@@ -1,8 +1,7 @@
 // Says of each entry of a store from elsewhere what importing it would say.
 #![tactic(auto)]
 
-use anyhow::anyhow;
-use script::Refusal;
+use anyhow::{Context, bail};
 use std::process::ExitCode;
 use std::{env, fs};
 use store::{check_entry, check_store, entry_count, entry_of};
@@ -19,20 +18,12 @@ fn main(rt: HostRuntime) -> ExitCode {
 }
 
 fn run(rt: &HostRuntime) -> anyhow::Result<()> {
-    let mut arguments = env::args(rt)?;
-    let _program = arguments.next();
-    let Some(path) = arguments.next() else {
-        return Err(anyhow!("usage: check_store FILE"));
-    };
-    let Ok(bytes) = fs::read(rt, path.as_str()) else {
-        return Err(anyhow!(format!(in rt.alloc(); "cannot read {path}")?));
-    };
+    let path = env::args(rt)?.nth(1).context("usage: check_store FILE")?;
+    let bytes = fs::read(rt, path.as_str()).context(format_args!("cannot read {path}"))?;
     match read_store(rt.alloc(), bytes.as_slice()) {
         Ok(rows) => print_store(rt, rows.as_slice()),
-        Err(StoreFileError::NotWholeNumbers) => Err(anyhow!(format!(in rt.alloc();
-            "{path} is no row of 64-bit numbers"
-        )?)),
-        Err(StoreFileError::OutOfMemory) => Err(anyhow!("out of memory")),
+        Err(error @ StoreFileError::NotWholeNumbers) => bail!("{path} is {error}"),
+        Err(error) => Err(error.into()),
     }
 }
 
@@ -46,24 +37,18 @@ fn print_store(rt: &HostRuntime, rows: &[u64]) -> anyhow::Result<()> {
     let count = entry_count(rows);
     let mut honest: u64 = 0;
     for index in 0..count {
-        if print_entry(rt, index, check_entry(entry_of(rows, index as usize)))? {
-            honest = honest.saturating_add(1);
+        match check_entry(entry_of(rows, index as usize)) {
+            Ok(()) => {
+                println!(rt; "entry {index} honest")?;
+                honest += 1;
+            }
+            Err(refusal) => {
+                let number = refusal.number();
+                let place = refusal.place();
+                println!(rt; "entry {index} refused {number} at {place}")?;
+            }
         }
     }
     println!(rt; "{honest} of {count} honest")?;
     Ok(())
-}
-
-// Prints the verdict, and says whether it is that the entry is honest.
-fn print_entry(rt: &HostRuntime, index: u64, verdict: Result<(), Refusal>) -> anyhow::Result<bool> {
-    match verdict {
-        Ok(()) => println!(rt; "entry {index} honest")?,
-        Err(refusal) => {
-            let number = refusal.number();
-            let place = refusal.place();
-            println!(rt; "entry {index} refused {number} at {place}")?;
-            return Ok(false);
-        }
-    }
-    Ok(true)
 }

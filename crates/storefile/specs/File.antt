@@ -19,4 +19,4 @@ numbers_in bs = chunks first_number number_bytes (length bs / number_bytes) bs
 abbrev pub StoreRead : List ℕ → Result (Vec ℕ Global) StoreFileError → Type 0
 StoreRead bs (Ok rows) = (length bs % number_bytes ≡ 0) × (vec_items rows ≡ numbers_in bs)
 StoreRead bs (Err NotWholeNumbers) = length bs % number_bytes ≡ 0 → ⊥
-StoreRead bs (Err OutOfMemory) = length bs % number_bytes ≡ 0
+StoreRead bs (Err (OutOfMemory _)) = length bs % number_bytes ≡ 0

@@ -6,24 +6,26 @@ ghost use Rattle.storefile.specs.File.{StoreRead, numbers_in};
 ghost use Rattle.storefile.specs.declared.StoreFileError.TheVariants.{OutOfMemory};
 
 use byte_reading::read_u64;
-use rows::tail;
 use std::alloc::{AllocError, Global};
+use thiserror::Error;
 
 // Bytes that a number takes.
 const NUMBER_BYTES: usize = 8;
 
-#[derive(Clone, Copy)]
+#[derive(Clone, Copy, Debug, Error)]
 pub enum StoreFileError {
     // The bytes do not come out even in numbers.
+    #[error("no row of 64-bit numbers")]
     NotWholeNumbers,
-    OutOfMemory,
+    #[error("out of memory")]
+    OutOfMemory(AllocError),
 }
 
 impl From<AllocError> for StoreFileError {
-    ghost from_gives = { λ _ r. r ≡ OutOfMemory };
+    ghost from_gives = { λ error r. r ≡ OutOfMemory error };
 
-    fn from(_error: AllocError) -> StoreFileError {
-        StoreFileError::OutOfMemory
+    fn from(error: AllocError) -> StoreFileError {
+        StoreFileError::OutOfMemory(error)
     }
 }
 
@@ -34,16 +36,11 @@ pub fn read_store(heap: Global, bytes: &[u8]) -> Result<Vec<u64>, StoreFileError
     if bytes.len() % NUMBER_BYTES != 0 {
         return Err(StoreFileError::NotWholeNumbers);
     }
-    let numbers = read_numbers(heap, bytes)?;
-    Ok(numbers)
+    Ok(read_numbers(heap, bytes)?)
 }
 
 fn read_numbers(heap: Global, bytes: &[u8]) -> Result<Vec<u64>, AllocError>
     ensures { IfOk result (λ numbers. numbers.items ≡ numbers_in bytes.now) }
 {
-    let mut numbers = Vec::new(heap);
-    for index in 0..bytes.len() / NUMBER_BYTES {
-        numbers.push(read_u64(tail(bytes, NUMBER_BYTES * index)))?;
-    }
-    Ok(numbers)
+    bytes.chunks_exact(NUMBER_BYTES).map(read_u64).collect(heap)
 }
