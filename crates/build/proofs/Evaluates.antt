@@ -1,5 +1,5 @@
 -- An item that is evaluated without being made: written, known, or open. Assumes nothing.
-use Rattle.std.proofs.Common.{◌≡◌, ℕ, ◌<◌, ◌≤◌, List, length, Some, None, arith}
+use Rattle.std.proofs.Common.{◌≡◌, ℕ, ◌<◌, ◌≤◌, List, length, Ok, arith}
 use Rattle.script.specs.Rule.{Script, Value}
 use Rattle.entry.specs.Entry.{Entry}
 use Rattle.entry.specs.declared.asking.Asking.{Asking}
@@ -8,7 +8,7 @@ use Rattle.items.specs.Rows.{first_item, item_size, items_in, max_items}
 use Rattle.theory.specs.Clean.{Makes, as_written, by_script}
 use Rattle.theory.specs.Items.{Item, item, made, written}
 use Rattle.theory.proofs.Rings.{made_there}
-use Rattle.build.specs.Made.{Evaluated}
+use Rattle.build.specs.Made.{EndsOpen, Evaluated}
 use Rattle.build.specs.Scratch.{state_of}
 use Rattle.build.specs.Sound.{Known, Ready, by_entry, by_hand, by_run}
 use Rattle.build.specs.declared.scratch.Scratch.{Scratch}
@@ -28,16 +28,16 @@ pub known_makes : {d : List Item} {σ : Scratch} {j : ℕ} {qs : List Asking} {v
 known_makes k = by_script k.is_made (walked_runs k.walked)
 
 module _ {d : List Item} {es : List Entry} {σ : Scratch} {depth : ℕ} (ready : Ready d es σ depth) (j : ℕ) where
-  pub is_written : {v : Value} → item d j ≡ written v → Evaluated d es σ j (Some v) σ
+  pub is_written : {v : Value} → item d j ≡ written v → Evaluated d es σ j (Ok v) σ
   is_written e = (went_none ready.sound, as_written e, by_hand e)
 
-  pub is_found : {v : Value} → state_of σ j ≡ Found v → Evaluated d es σ j (Some v) σ
+  pub is_found : {v : Value} → state_of σ j ≡ Found v → Evaluated d es σ j (Ok v) σ
   is_found {v} e = (went_none ready.sound, known_makes (ready.sound.found j v e).1.1, by_entry e)
 
-  pub is_ran : {v : Value} {row : List ℕ} → state_of σ j ≡ Ran v row → Evaluated d es σ j (Some v) σ
+  pub is_ran : {v : Value} {row : List ℕ} → state_of σ j ≡ Ran v row → Evaluated d es σ j (Ok v) σ
   is_ran {v} {row} e = (went_none ready.sound, known_makes (ready.sound.ran j v row e).1, by_run e)
 
-  pub is_open : state_of σ j ≡ Open → Evaluated d es σ j None σ
+  pub is_open : state_of σ j ≡ Open → EndsOpen d es σ j σ
   is_open e = (ended_none ready.sound, e)
 
   -- the depth lasts

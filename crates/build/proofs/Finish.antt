@@ -1,5 +1,5 @@
 -- A build whose item was evaluated, and whose list and entries were written. Assumes nothing.
-use Rattle.std.proofs.Common.{◌≡◌, ℕ, ◌+◌, ◌-◌, ◌<◌, ◌≤◌, Bool, true, false, cond, ltb, List, ◌++◌, length, take, drop, Some, None, Option, sym, refl, ap, ◌∙◌, subst, inl, inr, ⊎_elim, arith}
+use Rattle.std.proofs.Common.{◌≡◌, ℕ, ◌+◌, ◌-◌, ◌<◌, ◌≤◌, Bool, true, false, cond, ltb, List, ◌++◌, length, take, drop, Some, None, Option, Ok, Err, Result, sym, refl, ap, ◌∙◌, subst, inl, inr, ⊎_elim, arith}
 use Rattle.std.proofs.lemmas.List.{length-map}
 use Rattle.std.proofs.lemmas.Bool.{ltb-false}
 use Rattle.rows.proofs.Chunks.{length_chunks}
@@ -22,6 +22,7 @@ use Rattle.build.specs.Leaves.{is_run, kept_all, left_all, left_of, ran_list, to
 use Rattle.build.specs.Made.{Evaluated}
 use Rattle.build.specs.Scratch.{fresh, state_of}
 use Rattle.build.specs.Sound.{Ready, Waiting}
+use Rattle.items.specs.declared.ring.Ring.{Ring}
 use Rattle.build.specs.declared.scratch.Scratch.{Scratch}
 use Rattle.build.specs.declared.scratch.State.TheVariants.{Open}
 use Rattle.build.proofs.Ends.{ends, fresh_ready, open_ring}
@@ -50,42 +51,41 @@ no_fault items rows ran k e =
     (record { long = ltb-false _ _ long; within = ltb-false _ _ within }, omega (arith, ltb-false (length ran) (n + 1) room))
 
 -- what the recursion found, as an outcome
-abbrev pub outcome : Option ℕ → Out
-outcome (Some v) = value v
-outcome None = ring
+abbrev pub outcome : Result ℕ Ring → Out
+outcome (Ok v) = value v
+outcome (Err r) = ring
 
 module _ (d : List Item) (es : List Entry) (k : ℕ) (σ : Scratch) (room : ℕ) (fs : List Entry) (store : fs ≡ es ++ take (room - length es) (left_all d σ (ran_list σ (length d)))) where
-  built_by : (r : Option ℕ) → Evaluated d es fresh k r σ → (b : Built d es room k (outcome r) (ran_list σ (length d)) fs) × (b.new ≡ left_all d σ (ran_list σ (length d)))
-  built_by (Some v) (went, makes, settled) =
+  built_by : (r : Result ℕ Ring) → Evaluated d es fresh k r σ → (b : Built d es room k (outcome r) (ran_list σ (length d)) fs) × (b.new ≡ left_all d σ (ran_list σ (length d)))
+  built_by (Ok v) (went, makes, settled) =
       ends went.grown (λ j e. absurd (open_seen (went.closed j e) (fresh_unseen j))) (inl settled) room (value v) fs (sym (makes_clean makes)) store
-  built_by None (ended, last) =
+  built_by (Err r) (ended, last) =
       let wait : (j : ℕ) → state_of σ j ≡ Open → Waiting d σ j = λ j e. ⊎_elim (λ before. absurd (open_seen before (fresh_unseen j))) (λ w. w) (ended.stopped j e) in
       ends ended.grown wait (inr last) room ring fs (sym (open_ring ended.grown wait k last)) store
 
 -- the recursion began with a fresh scratch and depth for all items
 begun :
-    (d : List Item) {es fs : List Entry} {σ : Scratch} {depth : ℕ} (k : ℕ) (r : Option ℕ) (σ₁ : Scratch) → fs ≡ es → σ ≡ fresh → depth ≡ length d + 1 → length d ≤ max_items →
-    (Ready d fs σ depth → Evaluated d fs σ k r σ₁) → AllHonest es → Evaluated d es fresh k r σ₁
-begun d {es} {fs} {σ} {depth} k r σ₁ entries new deep few evaluated honest =
-    let one : Ready d es σ depth → Evaluated d es σ k r σ₁ = subst (λ x. Ready d x σ depth → Evaluated d x σ k r σ₁) entries evaluated in
-    let two : Ready d es fresh depth → Evaluated d es fresh k r σ₁ = subst (λ x. Ready d es x depth → Evaluated d es x k r σ₁) new one in
-    let three : Ready d es fresh (length d + 1) → Evaluated d es fresh k r σ₁ = subst (λ x. Ready d es fresh x → Evaluated d es fresh k r σ₁) deep two in
-    three (fresh_ready honest few)
+    (d : List Item) {es : List Entry} {σ : Scratch} {depth : ℕ} (k : ℕ) (r : Result ℕ Ring) (σ₁ : Scratch) → σ ≡ fresh → depth ≡ length d + 1 → length d ≤ max_items →
+    (Ready d es σ depth → Evaluated d es σ k r σ₁) → AllHonest es → Evaluated d es fresh k r σ₁
+begun d {es} {σ} {depth} k r σ₁ new deep few evaluated honest =
+    let one : Ready d es fresh depth → Evaluated d es fresh k r σ₁ = subst (λ x. Ready d es x depth → Evaluated d es x k r σ₁) new evaluated in
+    let two : Ready d es fresh (length d + 1) → Evaluated d es fresh k r σ₁ = subst (λ x. Ready d es fresh x → Evaluated d es fresh k r σ₁) deep one in
+    two (fresh_ready honest few)
 
 pub finished :
-    (items rows ran : List ℕ) (k : ℕ) (r : Option ℕ) (σ : Scratch) (rows₁ ran₁ : List ℕ) {count : ℕ} {es : List Entry} {σ₀ : Scratch} →
-    build_fault items rows ran k ≡ None → count ≡ length (items_in items) → es ≡ entries_in rows → σ₀ ≡ fresh →
-    (Ready (items_in items) es σ₀ (count + 1) → Evaluated (items_in items) es σ₀ k r σ) →
+    (items rows ran : List ℕ) (k : ℕ) (r : Result ℕ Ring) (σ : Scratch) (rows₁ ran₁ : List ℕ) {count : ℕ} {σ₀ : Scratch} →
+    build_fault items rows ran k ≡ None → count ≡ length (items_in items) → σ₀ ≡ fresh →
+    (Ready (items_in items) (entries_in rows) σ₀ (count + 1) → Evaluated (items_in items) (entries_in rows) σ₀ k r σ) →
     ran₁ ≡ told ran (ran_list σ count) →
     rows₁ ≡ kept_all rows (left_all (items_in items) σ (ran_list σ count)) →
     WentSo items rows ran k (says (outcome r)) rows₁ ran₁
-finished items rows ran k r σ rows₁ ran₁ fault all entries start evaluated listed kept =
+finished items rows ran k r σ rows₁ ran₁ fault all start evaluated listed kept =
     let d = items_in items in
     let n = length d in
     let list = ran_list σ n in
     let test : ℕ → Bool = λ j. is_run (state_of σ j) in
     let new = left_all d σ list in
-    let right = begun d k r σ entries start (ap (λ m. m + 1) all) (few_items items) evaluated in
+    let right = begun d k r σ start (ap (λ m. m + 1) all) (few_items items) evaluated in
     let so = stored rows new rows₁ (left_fits items σ list) (no_fault items rows ran k fault).0 (kept ∙ ap (λ m. kept_all rows (left_all d σ (ran_list σ m))) all) in
     let store : entries_in rows₁ ≡ entries_in rows ++ take (room_of rows - length (entries_in rows)) new
     = so.entries ∙ ap (λ m. entries_in rows ++ take (room_of rows - m) new) (sym (length_chunks entry_in entry_size (count_of rows) (drop 2 rows))) in

@@ -1,10 +1,13 @@
 -- How one part of a build follows another. Assumes nothing.
-use Rattle.std.proofs.Common.{ℕ, List, length, refl, ◌∙◌, inl, inr, ⊎_elim, arith}
+use Rattle.std.proofs.Common.{ℕ, List, length, Ok, Err, Result, refl, ◌∙◌, inl, inr, ⊎_elim, arith}
+use Rattle.std.specs.Result.{IsErr}
+use Rattle.std.proofs.lemmas.Bool.{false≢true}
 use Rattle.script.specs.Rule.{Task}
 use Rattle.entry.specs.Entry.{Entry}
 use Rattle.theory.specs.Clean.{Asks, Reached}
 use Rattle.theory.specs.Items.{Item}
 use Rattle.build.specs.Sound.{Ended, Grown, Later, Looked, Ready, Sound, Went}
+use Rattle.items.specs.declared.ring.Ring.{Ring}
 use Rattle.build.specs.declared.scratch.Scratch.{Scratch}
 use Rattle.build.proofs.States.{later_unseen, unseen_fewer}
 
@@ -41,3 +44,8 @@ module _ {d : List Item} {es : List Entry} where
 -- what an asked item looks at, the task looks at
 pub asked_looked : {d : List Item} {t : Task} {m : ℕ} → Asks d t m → (j : ℕ) → Reached d m j → Looked d t j
 asked_looked {m = m} a j r = (m, a, r)
+
+-- an error that is passed on is a ring
+pub by_ring : {A : Type 0} (P : Result A Ring → Type 0) (r : Result A Ring) → IsErr r → ((x : Ring) → P (Err x)) → P r
+by_ring P (Ok x) e h = absurd (false≢true e)
+by_ring P (Err x) e h = h x

@@ -1,5 +1,6 @@
 -- An item that was not seen is opened, and settled by an entry or a run; or it stays open. Assumes nothing.
-use Rattle.std.proofs.Common.{◌≡◌, ℕ, suc, ◌<◌, ◌⊎◌, List, length, Some, None, sym, refl, ap, ◌∙◌, subst, inl, inr, ⊎_elim, arith}
+use Rattle.std.proofs.Common.{◌≡◌, ℕ, suc, ◌<◌, ◌⊎◌, List, length, Ok, Result, sym, refl, ap, ◌∙◌, subst, inl, inr, ⊎_elim, arith}
+use Rattle.std.specs.Result.{IsErr}
 use Rattle.std.proofs.lemmas.Bool.{cases_eq}
 use Rattle.script.specs.Rule.{Script, Value, done, task_of}
 use Rattle.entry.specs.Entry.{Entry}
@@ -11,12 +12,14 @@ use Rattle.theory.specs.Items.{Item, item, made}
 use Rattle.theory.proofs.Needs.{reached_join}
 use Rattle.theory.proofs.Rings.{made_there}
 use Rattle.theory.proofs.Values.{written_made}
-use Rattle.build.specs.Made.{Evaluated}
+use Rattle.build.specs.Made.{EndsOpen, EndsWaiting, Evaluated}
 use Rattle.build.specs.Scratch.{marked, state_of}
 use Rattle.build.specs.Sound.{Ended, Grown, Held, Known, Later, Looked, Ready, Settled, Sound, Waiting, Walked, Went, by_entry, by_hand, by_run}
+use Rattle.items.specs.declared.ring.Ring.{Ring}
 use Rattle.build.specs.declared.scratch.Scratch.{Scratch}
 use Rattle.build.specs.declared.scratch.State.{State}
 use Rattle.build.specs.declared.scratch.State.TheVariants.{Found, Open, Ran, Unseen}
+use Rattle.build.proofs.Grows.{by_ring}
 use Rattle.build.proofs.Marks.{Marks, marks, marks_keeps, marks_sound}
 use Rattle.build.proofs.States.{found_shut, later_unseen, open_seen, ran_shut, unseen_less}
 use Rattle.build.proofs.Walks.{later_keeps, walked_keeps, walked_runs}
@@ -73,8 +76,8 @@ module _ {d : List Item} {es : List Entry} {σ : Scratch} {depth : ℕ} (ready :
           let keeps = opened_later.stays i seen in
           grown.later.stays i (λ e. seen (sym keeps ∙ e)) ∙ keeps
 
-    pub rings : {σ₂ : Scratch} → Ended d es (Looked d (task_of s)) σ₁ σ₂ → Held d σ₂ (task_of s) → Evaluated d es σ j None σ₂
-    rings {σ₂} e held =
+    rings : {σ₂ : Scratch} → EndsWaiting d es s σ₁ σ₂ → EndsOpen d es σ j σ₂
+    rings {σ₂} (e, held) =
         let own : Waiting d σ₂ j = record { script = s; is_made = is; held = held } in (
           record {
             grown = record {
@@ -91,10 +94,13 @@ module _ {d : List Item} {es : List Entry} {σ : Scratch} {depth : ℕ} (ready :
           still_open e.grown,
         )
 
+    pub made_ring : {σ₂ : Scratch} (r : Result ℕ Ring) → IsErr r → EndsWaiting d es s σ₁ σ₂ → Evaluated d es σ j r σ₂
+    made_ring {σ₂} r is_ring waits = by_ring (λ x. Evaluated d es σ j x σ₂) r is_ring (λ _. rings waits)
+
     -- the item is settled by a state that is neither open nor unseen
     settles :
         {σ₂ σ₃ : Scratch} {t : State} {v : Value} → Went d es (Looked d (task_of s)) σ₁ σ₂ → Marks σ₂ j t σ₃ →
-        (t ≡ Open → ⊥) → Sound d es σ₃ → Makes d j v → Settled d σ₃ j → Evaluated d es σ j (Some v) σ₃
+        (t ≡ Open → ⊥) → Sound d es σ₃ → Makes d j v → Settled d σ₃ j → Evaluated d es σ j (Ok v) σ₃
     settles {σ₂} {σ₃} w m shut sound makes settled = (
       record {
         grown = record {
@@ -130,7 +136,7 @@ module _ {d : List Item} {es : List Entry} {σ : Scratch} {depth : ℕ} (ready :
       known_now : {t : State} {σ₃ : Scratch} → Marks σ₂ j t σ₃ → Known d σ₃ j qs v
       known_now m = record { script = s; is_made = is; walked = walked_keeps (keeps_all m) walked }
 
-      pub settles_found : (σ₃ : Scratch) → σ₃ ≡ marked σ₂ j (Found v) → Saved d es j → Evaluated d es σ j (Some v) σ₃
+      pub settles_found : (σ₃ : Scratch) → σ₃ ≡ marked σ₂ j (Found v) → Saved d es j → Evaluated d es σ j (Ok v) σ₃
       settles_found σ₃ done_so saved =
           let m : Marks σ₂ j (Found v) σ₃ = marks inside_still done_so in
           settles w m (found_shut refl)
@@ -140,7 +146,7 @@ module _ {d : List Item} {es : List Entry} {σ : Scratch} {depth : ℕ} (ready :
           (by_script is (walked_runs walked))
           (by_entry m.here)
 
-      pub settles_ran : (row : List ℕ) (σ₃ : Scratch) → σ₃ ≡ marked σ₂ j (Ran v row) → askings_in row ≡ qs → (Saved d es j → ⊥) → Evaluated d es σ j (Some v) σ₃
+      pub settles_ran : (row : List ℕ) (σ₃ : Scratch) → σ₃ ≡ marked σ₂ j (Ran v row) → askings_in row ≡ qs → (Saved d es j → ⊥) → Evaluated d es σ j (Ok v) σ₃
       settles_ran row σ₃ done_so kept unsaved =
           let m : Marks σ₂ j (Ran v row) σ₃ = marks inside_still done_so in
           settles w m (ran_shut refl)

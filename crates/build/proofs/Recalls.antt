@@ -1,25 +1,29 @@
 -- The entries are gone through in order until one saves the script. Assumes nothing.
-use Rattle.std.proofs.Common.{◌≡◌, ℕ, ◌+◌, ◌*◌, ◌<◌, ◌≤◌, List, length, get_or, drop, sym, ap, ◌∙◌, subst, ⊎_elim, arith}
+use Rattle.std.proofs.Common.{◌≡◌, ℕ, ◌+◌, ◌*◌, ◌<◌, ◌≤◌, List, length, get_or, drop, true, false, Some, None, Option, Ok, Result, sym, ap, ◌∙◌, subst, ⊎_elim, arith}
+use Rattle.std.specs.Result.{IsErr}
 use Rattle.std.proofs.lemmas.Bool.{cases_eq}
-use Rattle.rows.specs.Rows.{chunks}
+use Rattle.std.proofs.lemmas.List.{drop-drop}
 use Rattle.rows.proofs.Chunks.{chunk_at, length_chunks}
 use Rattle.script.specs.Rule.{Script, Value, done, task_of}
 use Rattle.entry.specs.Entry.{AllHonest, Entry, Honest, no_entry}
 use Rattle.entry.specs.Layout.{entry_size}
 use Rattle.entry.specs.Rows.{entry_in}
+use Rattle.store.specs.Rows.{count_of, entries_in, entry_at}
 use Rattle.theory.specs.Build.{Usable}
 use Rattle.theory.specs.Items.{Item, made}
 use Rattle.theory.proofs.Values.{made_one}
-use Rattle.build.specs.Made.{RecalledSo, TestedSo}
+use Rattle.build.specs.Made.{AgreedSo, EndsWaiting, RecalledSo}
 use Rattle.build.specs.Sound.{Ended, Held, Looked, Ready, Sound, Walked, Went}
-use Rattle.build.specs.declared.making.Recalled.TheVariants as recalled
-use Rattle.build.specs.declared.making.Tested.TheVariants as tested
+use Rattle.items.specs.declared.ring.Ring.{Ring}
 use Rattle.build.specs.declared.scratch.Scratch.{Scratch}
-use Rattle.build.proofs.Grows.{ended_join, ready_grown, went_join, went_none}
+use Rattle.build.proofs.Grows.{by_ring, ended_join, ready_grown, went_join, went_none}
 
--- an entry that begins there in the row is the entry with that number
-pub entry_there : (xs row : List ℕ) (n i : ℕ) → i < n → row ≡ drop (entry_size * i) xs → (i < length (chunks entry_in entry_size n xs)) × (entry_in row ≡ get_or (chunks entry_in entry_size n xs) i no_entry)
-entry_there xs row n i h is = (rw length_chunks h, ap entry_in is ∙ sym (chunk_at entry_in entry_size n xs i no_entry h))
+-- the part of a store's row that begins with an entry holds the entry with that number
+pub entry_there : (rows row : List ℕ) (i : ℕ) → i < count_of rows → row ≡ drop (entry_at i) rows → (i < length (entries_in rows)) × (entry_in row ≡ get_or (entries_in rows) i no_entry)
+entry_there rows row i h is = (
+  rw length_chunks h,
+  ap entry_in (is ∙ sym (drop-drop (entry_size * i) 2 rows)) ∙ sym (chunk_at entry_in entry_size (count_of rows) (drop 2 rows) i no_entry h),
+)
 
 -- none of the first i entries saves a run of the script
 pub record Recalling (d : List Item) (es : List Entry) (s : Script) (σ : Scratch) (i : ℕ) (σ₁ : Scratch) : Type 0 where
@@ -30,7 +34,7 @@ pub recalling_none : {d : List Item} {es : List Entry} {s : Script} {σ : Scratc
 recalling_none sound = record { went = went_none sound; none = λ p h. absurd (omega arith) }
 
 module _ {d : List Item} {es : List Entry} {s : Script} {σ σ₁ : Scratch} {depth i : ℕ} (ready : Ready d es σ depth) (so_far : Recalling d es s σ i σ₁) where
-  pub recalling_end : length es ≤ i → RecalledSo d es s σ recalled.Nothing σ₁
+  pub recalling_end : length es ≤ i → RecalledSo d es s σ (Ok None) σ₁
   recalling_end past = (so_far.went, λ j is saved. so_far.none saved.place (omega (arith, saved.kept)) (made_one is saved.its) saved.usable)
 
   module _ (e : Entry) (there : (i < length es) × (e ≡ get_or es i no_entry)) where
@@ -62,15 +66,15 @@ module _ {d : List Item} {es : List Entry} {s : Script} {σ σ₁ : Scratch} {de
       went_on : Went d es (Looked d (task_of e.script)) σ₁ σ₂ → Went d es (Looked d (task_of s)) σ σ₂
       went_on went = went_join (λ j f. f) so_far.went (subst (λ x. Went d es (Looked d (task_of x)) σ₁ σ₂) (sym its) went)
 
-      pub recalling_differs : (Ready d es σ₁ depth → Honest e → TestedSo d es e σ₁ tested.Differs σ₂) → Recalling d es s σ (i + 1) σ₂
+      pub recalling_differs : (Ready d es σ₁ depth → Honest e → AgreedSo d es e σ₁ (Ok false) σ₂) → Recalling d es s σ (i + 1) σ₂
       recalling_differs test = let (went, unusable) = test again honest in one_more (went_on went) (λ _. unusable)
 
-      pub recalling_ring : (Ready d es σ₁ depth → Honest e → TestedSo d es e σ₁ tested.Ring σ₂) → RecalledSo d es s σ recalled.Ring σ₂
-      recalling_ring test =
+      pub recalling_ring : (Ready d es σ₁ depth → Honest e → EndsWaiting d es e.script σ₁ σ₂) → (r : Result (Option Value) Ring) → IsErr r → RecalledSo d es s σ r σ₂
+      recalling_ring test r is_ring =
           let (ended, held) = test again honest in
-          (ended_join (λ j f. f) so_far.went (subst (λ x. Ended d es (Looked d (task_of x)) σ₁ σ₂) (sym its) ended), subst (λ x. Held d σ₂ (task_of x)) (sym its) held)
+          by_ring (λ x. RecalledSo d es s σ x σ₂) r is_ring (λ _. (ended_join (λ j f. f) so_far.went (subst (λ x. Ended d es (Looked d (task_of x)) σ₁ σ₂) (sym its) ended), subst (λ x. Held d σ₂ (task_of x)) (sym its) held))
 
-      pub recalling_agrees : (v : Value) → v ≡ e.result → (Ready d es σ₁ depth → Honest e → TestedSo d es e σ₁ tested.Agrees σ₂) → RecalledSo d es s σ (recalled.Found v) σ₂
+      pub recalling_agrees : (v : Value) → v ≡ e.result → (Ready d es σ₁ depth → Honest e → AgreedSo d es e σ₁ (Ok true) σ₂) → RecalledSo d es s σ (Ok (Some v)) σ₂
       recalling_agrees v result test =
           let (went, usable, walked) = test again honest in (
             went_on went,

@@ -1,6 +1,7 @@
 -- An entry's answers are tested in order, as long as they are right. Assumes nothing.
-use Rattle.std.proofs.Common.{◌≡◌, ℕ, ◌+◌, ◌<◌, ◌≤◌, List, [], ◌∷◌, ◌++◌, length, get_or, take, drop, Some, None, sym, ap, ◌∙◌, subst, ⊎_elim, arith}
+use Rattle.std.proofs.Common.{◌≡◌, ℕ, ◌+◌, ◌<◌, ◌≤◌, List, [], ◌∷◌, ◌++◌, length, get_or, take, drop, Bool, true, false, Ok, Result, sym, ap, ◌∙◌, subst, ⊎_elim, arith}
 use Rattle.std.specs.List.{AllByRecursion}
+use Rattle.std.specs.Result.{IsErr}
 use Rattle.std.proofs.ByRecursion.{All-push}
 use Rattle.std.proofs.lemmas.List.{get_or_default, take_all, take_more}
 use Rattle.std.proofs.lemmas.Bool.{cases_eq}
@@ -16,11 +17,11 @@ use Rattle.theory.specs.Items.{Item}
 use Rattle.theory.proofs.Along.{along_asks, runs_along}
 use Rattle.theory.proofs.Entries.{honest_asks, honest_runs}
 use Rattle.theory.proofs.Values.{makes_unique}
-use Rattle.build.specs.Made.{Evaluated, TestedSo}
+use Rattle.build.specs.Made.{AgreedSo, EndsOpen, Evaluated}
 use Rattle.build.specs.Sound.{Looked, Ready, Settled, Sound, Went}
-use Rattle.build.specs.declared.making.Tested.TheVariants as tested
+use Rattle.items.specs.declared.ring.Ring.{Ring}
 use Rattle.build.specs.declared.scratch.Scratch.{Scratch}
-use Rattle.build.proofs.Grows.{asked_looked, ended_join, ready_grown, went_join, went_none}
+use Rattle.build.proofs.Grows.{asked_looked, by_ring, ended_join, ready_grown, went_join, went_none}
 use Rattle.build.proofs.Walks.{all_keeps, later_keeps}
 
 -- the askings of an entry are those of the row behind its script
@@ -40,7 +41,7 @@ pub trying_none : {d : List Item} {es : List Entry} {e : Entry} {σ : Scratch} �
 trying_none s = record { went = went_none s; right = λ j h. absurd (omega arith); settled = tt }
 
 module _ {d : List Item} {es : List Entry} {e : Entry} {σ σ₁ : Scratch} {depth i : ℕ} (ready : Ready d es σ depth) (honest : Honest e) (so_far : Trying d es e σ i σ₁) where
-  pub trying_end : length e.asked ≤ i → TestedSo d es e σ tested.Agrees σ₁
+  pub trying_end : length e.asked ≤ i → AgreedSo d es e σ (Ok true) σ₁
   trying_end past =
       let usable : Usable d e = λ j h. so_far.right j (omega arith) in (
         so_far.went,
@@ -62,10 +63,11 @@ module _ {d : List Item} {es : List Entry} {e : Entry} {σ σ₁ : Scratch} {dep
     again = ready_grown ready so_far.went.grown
 
     module _ {σ₂ : Scratch} where
-      pub trying_ring : (Ready d es σ₁ depth → Evaluated d es σ₁ q.item None σ₂) → TestedSo d es e σ tested.Ring σ₂
-      trying_ring found =
+      pub trying_ring : (Ready d es σ₁ depth → EndsOpen d es σ₁ q.item σ₂) → (r : Result Bool Ring) → IsErr r → AgreedSo d es e σ r σ₂
+      trying_ring found r is_ring =
           let (ended, last) = found again in
-          let (c, along) = honest_asks d e honest i there.0 so_far.right in (
+          let (c, along) = honest_asks d e honest i there.0 so_far.right in
+          by_ring (λ x. AgreedSo d es e σ x σ₂) r is_ring (λ _. (
             ended_join (asked_looked asked) so_far.went ended,
             record {
               asked = take i e.asked;
@@ -77,14 +79,14 @@ module _ {d : List Item} {es : List Entry} {e : Entry} {σ σ₁ : Scratch} {dep
               };
               still = last;
             },
-          )
+          ))
 
-      pub trying_differs : (v : Value) → (Ready d es σ₁ depth → Evaluated d es σ₁ q.item (Some v) σ₂) → (v ≡ q.answer → ⊥) → TestedSo d es e σ tested.Differs σ₂
+      pub trying_differs : (v : Value) → (Ready d es σ₁ depth → Evaluated d es σ₁ q.item (Ok v) σ₂) → (v ≡ q.answer → ⊥) → AgreedSo d es e σ (Ok false) σ₂
       trying_differs v found other =
           let (went, makes, settled) = found again in
           (went_join (asked_looked asked) so_far.went went, λ usable. other (makes_unique makes (subst (λ x. Makes d x.item x.answer) same (usable i there.0))))
 
-      pub trying_more : (v : Value) → (Ready d es σ₁ depth → Evaluated d es σ₁ q.item (Some v) σ₂) → v ≡ q.answer → Trying d es e σ (i + 1) σ₂
+      pub trying_more : (v : Value) → (Ready d es σ₁ depth → Evaluated d es σ₁ q.item (Ok v) σ₂) → v ≡ q.answer → Trying d es e σ (i + 1) σ₂
       trying_more v found agrees =
           let (went, makes, settled) = found again in
           record {

@@ -1,11 +1,10 @@
 -- When what the scratch of a build says of the items is right. Assumes nothing: these are definitions.
 use Rattle.std.specs.Prelude.{◌≡◌, ℕ, ◌≤◌, ◌⊎◌, List, length, ◌≢◌}
 use Rattle.std.specs.List.{AllByRecursion}
-use Rattle.rows.specs.Rows.{chunks}
 use Rattle.script.specs.Rule.{Script, Task, Value, asks, done, task_of}
 use Rattle.entry.specs.Entry.{AllHonest, Entry}
-use Rattle.entry.specs.Layout.{entry_size}
-use Rattle.entry.specs.Rows.{askings_in, entry_in}
+use Rattle.entry.specs.Rows.{askings_in}
+use Rattle.store.specs.Rows.{entries_in}
 use Rattle.entry.specs.declared.asking.Asking.{Asking}
 use Rattle.theory.specs.Along.{Along}
 use Rattle.theory.specs.Build.{Saved}
@@ -21,7 +20,7 @@ abbrev pub items_of : Lent → List Item
 items_of x = items_in x.items.now
 
 abbrev pub entries_of : Lent → List Entry
-entries_of x = chunks entry_in entry_size x.count x.entries.now
+entries_of x = entries_in x.rows.now
 
 -- an item on which nothing is left to do: written or not there, or known
 pub data Settled (d : List Item) (σ : Scratch) (j : ℕ) : Type 0 where

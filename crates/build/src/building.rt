@@ -9,12 +9,11 @@ use super::ending::{keep_runs, list_runs};
 use super::lent::Lent;
 use super::making::evaluate;
 use super::scratch::Scratch;
-use items::item_count;
-use rows::{number_after, tail};
+use items::{Ring, item_count};
 use script::Refusal;
 use store::check_store;
 
-#[derive(Clone, Copy)]
+#[derive(Clone, Copy, PartialEq, Debug)]
 pub enum Answer {
     Value(u64),
     // The item is needed for itself.
@@ -72,16 +71,11 @@ fn build_checked(items: &[u64], rows: &mut [u64], ran: &mut [u64], k: u64, count
     ensures { WentSo items.now rows.old ran.old k result rows.new ran.new }
 {
     let mut scratch = Scratch::new();
-    let lent = Lent {
-        items,
-        entries: tail(rows, 2),
-        count: number_after(rows, 0, 0) as usize,
-    };
-    let found = evaluate(lent, &mut scratch, count + 1, k);
+    let found = evaluate(Lent { items, rows }, &mut scratch, count + 1, k);
     list_runs(&scratch, count, ran);
     keep_runs(items, &scratch, count, rows);
     match found {
-        Some(value) => Answer::Value(value),
-        None => Answer::Ring,
+        Ok(value) => Answer::Value(value),
+        Err(Ring) => Answer::Ring,
     }
 }

@@ -1,39 +1,23 @@
 // What an item comes to: the recursion from item to item, over the scratch of one build.
 ghost use Rattle.std.specs.Prelude.{◌<◌};
 ghost use Rattle.build.specs.Sound.{Ready, entries_of, items_of};
-ghost use Rattle.build.specs.Made.{Evaluated, MadeSo, RanSo, RecalledSo, TestedSo};
+ghost use Rattle.build.specs.Made.{AgreedSo, Evaluated, MadeSo, RanSo, RecalledSo};
 ghost use Rattle.entry.specs.Entry.{Honest};
 ghost use Rattle.entry.specs.Rows.{entry_in};
 ghost use Rattle.items.specs.Rows.{max_items};
 ghost use Rattle.script.specs.Rows.{script_in};
 
-use super::lent::{Lent, entry_row};
+use super::lent::Lent;
 use super::scratch::{Scratch, State};
 use super::trace::push_asking;
 use entry::{ASKINGS_SIZE, Asking, RESULT_AT, asking_of};
-use items::{Item, item_of};
+use items::{Item, Ring, item_of};
 use machine::Registers;
 use rows::{number_after, tail};
 use runner::{Step, run};
 use script::SCRIPT_SIZE;
 use script_rows::same_script;
-
-// What the entries say of a script.
-#[derive(Clone, Copy)]
-pub enum Recalled {
-    Found(u64),
-    // No entry holds, so the script has to be run.
-    Nothing,
-    Ring,
-}
-
-// Whether the answers of one entry are right.
-#[derive(Clone, Copy)]
-pub enum Tested {
-    Agrees,
-    Differs,
-    Ring,
-}
+use store::{entry_count, entry_of};
 
 // What a run of a script gave, with its askings.
 #[derive(Clone, Copy)]
@@ -42,20 +26,20 @@ pub struct Gave {
     askings: [u64; ASKINGS_SIZE],
 }
 
-// The value of an item, or none if it is needed for itself. The depth is never used up before the items are.
-#[cycle(evaluate_make_recall_run_script_test_answers)]
-pub fn evaluate(lent: Lent, scratch: &mut Scratch, depth: usize, item: u64) -> Option<u64>
+// The value of an item. The depth is never used up before the items are.
+#[cycle(evaluate_make_recall_run_script_answers_agree)]
+pub fn evaluate(lent: Lent, scratch: &mut Scratch, depth: usize, item: u64) -> Result<u64, Ring>
     ensures { Ready (items_of lent.entry) (entries_of lent.entry) scratch.old depth → Evaluated (items_of lent.entry) (entries_of lent.entry) scratch.old item result scratch.new }
 {
     match item_of(lent.items, item) {
-        Item::Written(value) => Some(value),
+        Item::Written(value) => Ok(value),
         Item::Made(script) => match scratch.state(item) {
-            State::Found(value) => Some(value),
-            State::Ran(value, _) => Some(value),
-            State::Open => None,
+            State::Found(value) => Ok(value),
+            State::Ran(value, _) => Ok(value),
+            State::Open => Err(Ring),
             State::Unseen => {
                 if depth == 0 {
-                    return None;
+                    return Err(Ring);
                 }
                 make(lent, scratch, depth - 1, item, script)
             }
@@ -64,68 +48,68 @@ pub fn evaluate(lent: Lent, scratch: &mut Scratch, depth: usize, item: u64) -> O
 }
 
 // An item that was not seen before: by an entry that holds, or else by a run.
-#[cycle(evaluate_make_recall_run_script_test_answers)]
-fn make(lent: Lent, scratch: &mut Scratch, depth: usize, item: u64, script: &[u64]) -> Option<u64>
+#[cycle(evaluate_make_recall_run_script_answers_agree)]
+fn make(
+    lent: Lent,
+    scratch: &mut Scratch,
+    depth: usize,
+    item: u64,
+    script: &[u64],
+) -> Result<u64, Ring>
     requires { item < max_items }
     ensures { MadeSo (items_of lent.entry) (entries_of lent.entry) (script_in script.now) depth scratch.old item result scratch.new }
 {
     scratch.mark(item, State::Open);
-    match recall(lent, scratch, depth, script) {
-        Recalled::Found(value) => {
-            scratch.mark(item, State::Found(value));
-            Some(value)
-        }
-        Recalled::Ring => None,
-        Recalled::Nothing => {
-            let Some(gave) = run_script(lent, scratch, depth, script) else {
-                return None;
-            };
-            scratch.mark(item, State::Ran(gave.value, gave.askings));
-            Some(gave.value)
-        }
+    if let Some(value) = recall(lent, scratch, depth, script)? {
+        scratch.mark(item, State::Found(value));
+        return Ok(value);
     }
+    let gave = run_script(lent, scratch, depth, script)?;
+    scratch.mark(item, State::Ran(gave.value, gave.askings));
+    Ok(gave.value)
 }
 
-// The first entry of this script whose answers are all right.
-#[cycle(evaluate_make_recall_run_script_test_answers)]
-fn recall(lent: Lent, scratch: &mut Scratch, depth: usize, script: &[u64]) -> Recalled
+// The result of the first entry of this script whose answers are all right; with none, the script has to be run.
+#[cycle(evaluate_make_recall_run_script_answers_agree)]
+fn recall(
+    lent: Lent,
+    scratch: &mut Scratch,
+    depth: usize,
+    script: &[u64],
+) -> Result<Option<u64>, Ring>
     ensures { Ready (items_of lent.entry) (entries_of lent.entry) scratch.old depth → RecalledSo (items_of lent.entry) (entries_of lent.entry) (script_in script.now) scratch.old result scratch.new }
 {
-    for index in 0..lent.count {
-        let row = entry_row(lent.entries, index);
+    for index in 0..entry_count(lent.rows) as usize {
+        let row = entry_of(lent.rows, index);
         if same_script(script, row) {
-            match test_answers(lent, scratch, depth, row) {
-                Tested::Agrees => return Recalled::Found(number_after(row, RESULT_AT, 0)),
-                Tested::Ring => return Recalled::Ring,
-                Tested::Differs => {}
+            if answers_agree(lent, scratch, depth, row)? {
+                return Ok(Some(number_after(row, RESULT_AT, 0)));
             }
         }
     }
-    Recalled::Nothing
+    Ok(None)
 }
 
 // Looks at what an entry asked for, in order, as long as the answers agree: what comes after one that differs is not the script's asking.
-#[cycle(evaluate_make_recall_run_script_test_answers)]
-fn test_answers(lent: Lent, scratch: &mut Scratch, depth: usize, row: &[u64]) -> Tested
-    ensures { Ready (items_of lent.entry) (entries_of lent.entry) scratch.old depth → Honest (entry_in row.now) → TestedSo (items_of lent.entry) (entries_of lent.entry) (entry_in row.now) scratch.old result scratch.new }
+#[cycle(evaluate_make_recall_run_script_answers_agree)]
+fn answers_agree(lent: Lent, scratch: &mut Scratch, depth: usize, row: &[u64]) -> Result<bool, Ring>
+    ensures { Ready (items_of lent.entry) (entries_of lent.entry) scratch.old depth → Honest (entry_in row.now) → AgreedSo (items_of lent.entry) (entries_of lent.entry) (entry_in row.now) scratch.old result scratch.new }
 {
     let askings = tail(row, SCRIPT_SIZE);
     let mut index = 0;
     while let Some(asking) = asking_of(askings, index) {
-        let Some(value) = evaluate(lent, scratch, depth, asking.item) else {
-            return Tested::Ring;
-        };
+        let value = evaluate(lent, scratch, depth, asking.item)?;
         if value != asking.answer {
-            return Tested::Differs;
+            return Ok(false);
         }
         index += 1;
     }
-    Tested::Agrees
+    Ok(true)
 }
 
 // Runs a script from one asking to the next, each answered with what the item comes to at the desk.
-#[cycle(evaluate_make_recall_run_script_test_answers)]
-fn run_script(lent: Lent, scratch: &mut Scratch, depth: usize, script: &[u64]) -> Option<Gave>
+#[cycle(evaluate_make_recall_run_script_answers_agree)]
+fn run_script(lent: Lent, scratch: &mut Scratch, depth: usize, script: &[u64]) -> Result<Gave, Ring>
     ensures { Ready (items_of lent.entry) (entries_of lent.entry) scratch.old depth → RanSo (items_of lent.entry) (entries_of lent.entry) (script_in script.now) scratch.old result scratch.new }
 {
     let mut registers = Registers::new();
@@ -133,13 +117,11 @@ fn run_script(lent: Lent, scratch: &mut Scratch, depth: usize, script: &[u64]) -
     loop {
         match run(script, registers) {
             Step::Asks { item, waiting } => {
-                let Some(answer) = evaluate(lent, scratch, depth, item) else {
-                    return None;
-                };
+                let answer = evaluate(lent, scratch, depth, item)?;
                 push_asking(&mut askings, Asking { item, answer });
                 registers = waiting.answer(answer);
             }
-            Step::Gives(value) => return Some(Gave { value, askings }),
+            Step::Gives(value) => return Ok(Gave { value, askings }),
         }
     }
 }

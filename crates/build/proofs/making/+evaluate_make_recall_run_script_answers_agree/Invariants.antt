@@ -7,7 +7,7 @@ use Rattle.build.specs.Sound.{Ready, entries_of, items_of}
 use Rattle.build.proofs.Recalls.{Recalling}
 use Rattle.build.proofs.Runs.{Running}
 use Rattle.build.proofs.Tests.{Trying}
-use Rattle.build.proofs.making.+evaluate_make_recall_run_script_test_answers.Given as goal
+use Rattle.build.proofs.making.+evaluate_make_recall_run_script_answers_agree.Given as goal
 
 abbrev pub decreases-evaluate : goal.decreases-evaluate
 decreases-evaluate l = 4 * l.depth
@@ -21,8 +21,8 @@ decreases-recall l = 4 * l.depth + 2
 abbrev pub decreases-run_script : goal.decreases-run_script
 decreases-run_script l = 4 * l.depth + 1
 
-abbrev pub decreases-test_answers : goal.decreases-test_answers
-decreases-test_answers l = 4 * l.depth + 1
+abbrev pub decreases-answers_agree : goal.decreases-answers_agree
+decreases-answers_agree l = 4 * l.depth + 1
 
 -- none of the entries so far saves the script
 abbrev pub invariant-recall-loop-index : goal.invariant-recall-loop-index
@@ -42,11 +42,11 @@ abbrev pub decreases-run_script-loop-item : goal.decreases-run_script-loop-item
 decreases-run_script-loop-item l = length (script_in l.script) - l.registers.next
 
 -- the answers so far are right
-abbrev pub invariant-test_answers-loop-asking : goal.invariant-test_answers-loop-asking
-invariant-test_answers-loop-asking l =
+abbrev pub invariant-answers_agree-loop-asking : goal.invariant-answers_agree-loop-asking
+invariant-answers_agree-loop-asking l =
     (l.index ≤ length (askings_in l.askings))
     × (Ready (items_of l.lent) (entries_of l.lent) l.initial.scratch l.depth → Honest (entry_in l.row) →
     Trying (items_of l.lent) (entries_of l.lent) (entry_in l.row) l.initial.scratch l.index l.scratch)
 
-abbrev pub decreases-test_answers-loop-asking : goal.decreases-test_answers-loop-asking
-decreases-test_answers-loop-asking l = length (askings_in l.askings) - l.index
+abbrev pub decreases-answers_agree-loop-asking : goal.decreases-answers_agree-loop-asking
+decreases-answers_agree-loop-asking l = length (askings_in l.askings) - l.index
