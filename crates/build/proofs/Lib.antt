@@ -5,6 +5,7 @@ mod Grows
 mod Marks
 mod Evaluates
 mod Makes
+mod Parts
 mod Tests
 mod Recalls
 mod Runs

@@ -2,13 +2,8 @@
 use Rattle.std.proofs.Common.{◌≡◌, ℕ, ◌+◌, ◌*◌, ◌<◌, ◌≤◌, List, length, get_or, drop, true, false, Some, None, Option, Ok, Result, sym, ap, ◌∙◌, subst, ⊎_elim, arith}
 use Rattle.std.specs.Result.{IsErr}
 use Rattle.std.proofs.lemmas.Bool.{cases_eq}
-use Rattle.std.proofs.lemmas.List.{drop-drop}
-use Rattle.rows.proofs.Chunks.{chunk_at, length_chunks}
 use Rattle.script.specs.Rule.{Script, Value, done, task_of}
 use Rattle.entry.specs.Entry.{AllHonest, Entry, Honest, no_entry}
-use Rattle.entry.specs.Layout.{entry_size}
-use Rattle.entry.specs.Rows.{entry_in}
-use Rattle.store.specs.Rows.{count_of, entries_in, entry_at}
 use Rattle.theory.specs.Build.{Usable}
 use Rattle.theory.specs.Items.{Item, made}
 use Rattle.theory.proofs.Values.{made_one}
@@ -17,13 +12,6 @@ use Rattle.build.specs.Sound.{Ended, Held, Looked, Ready, Sound, Walked, Went}
 use Rattle.items.specs.declared.ring.Ring.{Ring}
 use Rattle.build.specs.declared.scratch.Scratch.{Scratch}
 use Rattle.build.proofs.Grows.{by_ring, ended_join, ready_grown, went_join, went_none}
-
--- the part of a store's row that begins with an entry holds the entry with that number
-pub entry_there : (rows row : List ℕ) (i : ℕ) → i < count_of rows → row ≡ drop (entry_at i) rows → (i < length (entries_in rows)) × (entry_in row ≡ get_or (entries_in rows) i no_entry)
-entry_there rows row i h is = (
-  rw length_chunks h,
-  ap entry_in (is ∙ sym (drop-drop (entry_size * i) 2 rows)) ∙ sym (chunk_at entry_in entry_size (count_of rows) (drop 2 rows) i no_entry h),
-)
 
 -- none of the first i entries saves a run of the script
 pub record Recalling (d : List Item) (es : List Entry) (s : Script) (σ : Scratch) (i : ℕ) (σ₁ : Scratch) : Type 0 where

@@ -1,14 +1,18 @@
 -- An entry's answers are tested in order, as long as they are right. Assumes nothing.
-use Rattle.std.proofs.Common.{◌≡◌, ℕ, ◌+◌, ◌<◌, ◌≤◌, List, [], ◌∷◌, ◌++◌, length, get_or, take, drop, Bool, true, false, Ok, Result, sym, ap, ◌∙◌, subst, ⊎_elim, arith}
+use Rattle.std.proofs.Common.{◌≡◌, ℕ, ◌+◌, ◌<◌, ◌≤◌, min, List, [], ◌∷◌, ◌++◌, map, length, get_or, take, drop, Bool, true, false, Ok, Result, sym, ap, ◌∙◌, subst, ⊎_elim, arith}
 use Rattle.std.specs.List.{AllByRecursion}
 use Rattle.std.specs.Result.{IsErr}
 use Rattle.std.proofs.ByRecursion.{All-push}
 use Rattle.std.proofs.lemmas.List.{get_or_default, take_all, take_more}
 use Rattle.std.proofs.lemmas.Bool.{cases_eq}
-use Rattle.script.specs.Layout.{script_size}
+use Rattle.rows.specs.Rows.{chunks}
+use Rattle.rows.proofs.Chunks.{map_chunks}
+use Rattle.rows.proofs.Counted.{count_in}
+use Rattle.script.specs.Layout.{max_askings, script_size}
 use Rattle.script.specs.Rule.{Value, asks, task_of}
 use Rattle.entry.specs.Entry.{Entry, Honest, no_asking}
-use Rattle.entry.specs.Rows.{askings_in, entry_in}
+use Rattle.entry.specs.Layout.{asking_size}
+use Rattle.entry.specs.Rows.{askings_in, entry_in, first_asking}
 use Rattle.entry.specs.declared.asking.Asking.{Asking}
 use Rattle.theory.specs.Along.{Along}
 use Rattle.theory.specs.Build.{RightAt, Usable}
@@ -24,12 +28,14 @@ use Rattle.build.specs.declared.scratch.Scratch.{Scratch}
 use Rattle.build.proofs.Grows.{asked_looked, by_ring, ended_join, ready_grown, went_join, went_none}
 use Rattle.build.proofs.Walks.{all_keeps, later_keeps}
 
--- the askings of an entry are those of the row behind its script
-pub named : (row : List ℕ) {askings : List ℕ} {i : ℕ} → askings ≡ drop script_size row → (q : Asking) → (i < length (askings_in askings)) × (get_or (askings_in askings) i q ≡ q) → (i < length (entry_in row).asked) × (get_or (entry_in row).asked i q ≡ q)
-named row {i = i} is q there = subst (λ xs. (i < length (askings_in xs)) × (get_or (askings_in xs) i q ≡ q)) is there
-
-pub past : (row : List ℕ) {askings : List ℕ} {i : ℕ} → askings ≡ drop script_size row → length (askings_in askings) ≤ i → length (entry_in row).asked ≤ i
-past row {i = i} is h = subst (λ xs. length (askings_in xs) ≤ i) is h
+-- the parts that stand behind the count of askings are the entry's askings
+pub asked_parts : (row : List ℕ) {askings rest : List ℕ} {n : ℕ} {ps : List (List ℕ)} → askings ≡ drop script_size row → rest ≡ drop 1 askings → n ≡ length (askings_in askings) → ps ≡ chunks (λ xs. xs) asking_size n rest → map first_asking ps ≡ (entry_in row).asked
+asked_parts row {askings} {rest} {n} is behind many all =
+    let count : n ≡ min (get_or askings 0 0) max_askings = many ∙ count_in first_asking asking_size max_askings askings in
+    ap (map first_asking) all
+    ∙ map_chunks first_asking asking_size n rest
+    ∙ (λ i. chunks first_asking asking_size (count i) (behind i))
+    ∙ ap askings_in is
 
 -- the first i answers are right, and what they name is settled
 pub record Trying (d : List Item) (es : List Entry) (e : Entry) (σ : Scratch) (i : ℕ) (σ₁ : Scratch) : Type 0 where

@@ -8,7 +8,8 @@ use Rattle.theory.specs.Build.{Saved, Usable}
 use Rattle.theory.specs.Clean.{Makes, Reached}
 use Rattle.theory.specs.Items.{Item, item, made}
 use Rattle.build.specs.Scratch.{state_of}
-use Rattle.build.specs.Sound.{Ended, Held, Looked, Ready, Settled, Walked, Went}
+use Rattle.build.specs.Sound.{Ended, Held, IfReady, Looked, Settled, Walked, Went}
+use Rattle.build.specs.declared.lent.Lent.{Lent}
 use Rattle.build.specs.declared.making.Gave.{Gave}
 use Rattle.items.specs.declared.ring.Ring.{Ring}
 use Rattle.build.specs.declared.scratch.Scratch.{Scratch}
@@ -28,8 +29,8 @@ Evaluated d es σ j (Ok v) σ₁ = Went d es (Reached d j) σ σ₁ × Makes d j
 Evaluated d es σ j (Err r) σ₁ = EndsOpen d es σ j σ₁
 
 -- the same of an item with this script that was not seen
-abbrev pub MadeSo : List Item → List Entry → Script → ℕ → Scratch → ℕ → Result ℕ Ring → Scratch → Type 0
-MadeSo d es s depth σ j r σ₁ = Ready d es σ (suc depth) → item d j ≡ made s → state_of σ j ≡ Unseen → Evaluated d es σ j r σ₁
+abbrev pub MadeSo : Lent → Script → ℕ → Scratch → ℕ → Result ℕ Ring → Scratch → Type 0
+MadeSo x s depth σ j r σ₁ = IfReady x σ (suc depth) (λ d es. item d j ≡ made s → state_of σ j ≡ Unseen → Evaluated d es σ j r σ₁)
 
 -- an entry's answers are all right, and then it is the run; or one is not; or the script waits
 abbrev pub AgreedSo : List Item → List Entry → Entry → Scratch → Result Bool Ring → Scratch → Type 0

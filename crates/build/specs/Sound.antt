@@ -63,6 +63,10 @@ pub record Ready (d : List Item) (es : List Entry) (σ : Scratch) (depth : ℕ) 
   pub sound : Sound d es σ
   pub deep : unseen (length d) σ ≤ depth
 
+-- where that is so of what is lent
+abbrev pub IfReady : Lent → Scratch → ℕ → (List Item → List Entry → Type 0) → Type 0
+IfReady x σ depth P = Ready (items_of x) (entries_of x) σ depth → P (items_of x) (entries_of x)
+
 -- an item that was seen stays as it was
 pub record Later (σ σ₁ : Scratch) : Type 0 where
   pub stays : (j : ℕ) → (state_of σ j ≢ Unseen) → state_of σ₁ j ≡ state_of σ j

@@ -7,7 +7,6 @@ ghost use Rattle.std.specs.Result.{result_err};
 
 use super::ending::{keep_runs, list_runs};
 use super::lent::Lent;
-use super::making::evaluate;
 use super::scratch::Scratch;
 use items::{Ring, item_count};
 use script::Refusal;
@@ -41,7 +40,8 @@ fn check_build(items: &[u64], rows: &[u64], ran: &[u64], k: u64) -> Result<usize
         return Err(Refusal::NoSuchItem { item: k });
     };
     check_store(rows)?;
-    let Some(_) = listed_at_most(count, ran.len()) else {
+    // The list of all items has its length in front.
+    let Some(_) = ran.get(count) else {
         return Err(Refusal::ListTooShort {
             length: ran.len() as u64,
         });
@@ -54,15 +54,7 @@ fn count_above(items: &[u64], k: u64) -> Option<usize>
     ensures { result ≡ (if nat_lt k (length (items_in items.now)) then Some (length (items_in items.now)) else None) }
 {
     let count = item_count(items);
-    if k < count as u64 { Some(count) } else { None }
-}
-
-// The numbers that a list of all items takes, if a row of this length has them.
-fn listed_at_most(count: usize, length: usize) -> Option<usize>
-    ensures { result ≡ (if nat_lt length (count + 1) then None else Some (count + 1)) }
-{
-    let needed = count.checked_add(1)?;
-    if needed <= length { Some(needed) } else { None }
+    (k < count as u64).then_some(count)
 }
 
 fn build_checked(items: &[u64], rows: &mut [u64], ran: &mut [u64], k: u64, count: usize) -> Answer
@@ -71,7 +63,7 @@ fn build_checked(items: &[u64], rows: &mut [u64], ran: &mut [u64], k: u64, count
     ensures { WentSo items.now rows.old ran.old k result rows.new ran.new }
 {
     let mut scratch = Scratch::new();
-    let found = evaluate(Lent { items, rows }, &mut scratch, count + 1, k);
+    let found = scratch.evaluate(Lent { items, rows }, count + 1, k);
     list_runs(&scratch, count, ran);
     keep_runs(items, &scratch, count, rows);
     match found {

@@ -4,7 +4,7 @@ ghost use Rattle.entry.specs.Layout.{askings_size};
 ghost use Rattle.entry.specs.Rows.{askings_in};
 ghost use Rattle.script.specs.Layout.{max_askings};
 
-use entry::{Asking, asking_count};
+use entry::{ASKING_SIZE, Asking, asking_count};
 use rows::put_all;
 use script::MAX_ASKINGS;
 
@@ -14,7 +14,7 @@ pub fn push_asking(row: &mut [u64], asking: Asking)
 {
     let count = asking_count(row);
     if count < MAX_ASKINGS {
-        asking.write(row, 1 + 2 * count);
+        asking.write(row, 1 + ASKING_SIZE * count);
         put_all(row, 0, &[count as u64 + 1]);
     }
 }

@@ -9,6 +9,6 @@ mod writing;
 
 pub use asking::{Asking, asking_count, asking_of};
 pub use honesty::replay;
-pub use layout::{ASKINGS_SIZE, ENTRY_SIZE, RESULT_AT};
+pub use layout::{ASKING_SIZE, ASKINGS_SIZE, ENTRY_SIZE, RESULT_AT};
 pub use parts::write_from_parts;
 pub use writing::write_entry;

@@ -16,10 +16,10 @@ keep_runs-requires c = omega (arith, c.requires.all, few_items c.args.items.now)
 
 pub returns-in-Ok : goal.returns-in-Ok
 returns-in-Ok c =
-    finished c.args.items.now c.args.rows.now c.args.ran.now c.args.k (Ok c.in-Ok.value) c.evaluate-found.new.scratch c.keep_runs.new.rows c.list_runs.new.ran
+    finished c.args.items.now c.args.rows.now c.args.ran.now c.args.k (Ok c.in-Ok.value) c.evaluate-found.new.self c.keep_runs.new.rows c.list_runs.new.ran
     c.requires.fine c.requires.all c.new-scratch.ensures c.in-Ok.ensures c.list_runs.ensures c.keep_runs.ensures
 
 pub returns-in-Err : goal.returns-in-Err
 returns-in-Err c =
-    finished c.args.items.now c.args.rows.now c.args.ran.now c.args.k (Err _) c.evaluate-found.new.scratch c.keep_runs.new.rows c.list_runs.new.ran
+    finished c.args.items.now c.args.rows.now c.args.ran.now c.args.k (Err _) c.evaluate-found.new.self c.keep_runs.new.rows c.list_runs.new.ran
     c.requires.fine c.requires.all c.new-scratch.ensures c.in-Err.ensures c.list_runs.ensures c.keep_runs.ensures
