@@ -1,19 +1,12 @@
--- An item that is written over its place in the row. Assumes nothing.
+-- What was told under a test, and a row with its first number set. Assumes nothing.
 use Rattle.std.proofs.Common.{◌≡◌, ℕ, ◌+◌, Bool, true, false, cond, List, [], ◌∷◌, length, take, drop, set, Some, None, refl, arith}
 use borrow.Rule.Slice.PartMut.{put_mid}
-use Rattle.std.proofs.lemmas.List.{append-nil, drop_all, drop-drop, length-drop, length-set, take_more_set}
-use Rattle.theory.specs.Items.{Item}
-use Rattle.items.specs.Rows.{item_at, item_out, item_size, rewritten}
+use Rattle.std.proofs.lemmas.List.{append-nil, drop_all, length-drop, length-set, take_more_set}
 
 -- what was told under a test is that, and the test held
 pub told : {X : Type 0} (b : Bool) (s t : X) → Some s ≡ cond b (Some t) None → (b ≡ true) × (s ≡ t)
 told true s t e = (refl, grind arith)
 told false s t e = absurd (grind arith)
-
-pub placed : (row ys : List ℕ) (k start size : ℕ) (i : Item) → start ≡ item_at k → size ≡ item_size → ys ≡ item_out i → put_mid start size row ys ≡ rewritten row k i
-placed row ys k start size i at long is =
-    let next : item_at k + item_size ≡ item_at (k + 1) = omega arith in
-    rw (at, long, drop-drop, next, is) refl
 
 -- the first number is set, and the rest of the row is zs
 pub headed : (row zs : List ℕ) (n m : ℕ) → length row ≡ m + 1 → put_mid 1 m (set row 0 n) zs ≡ n ∷ zs

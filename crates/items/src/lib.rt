@@ -4,15 +4,23 @@
 ghost use Rattle.std.specs.Prelude.{◌≡◌, ◌≤◌, length};
 ghost use Rattle.items.specs.Rows.{ReadsFirst, ReadsItem, items_in};
 
+mod listing;
 mod ring;
 mod writing;
 
+pub use listing::{HasRun, list_runs};
 pub use ring::Ring;
 use rows::{number_after, tail};
 pub use writing::{has_item, write_made, write_value};
 
-// Numbers that an item takes: 0 and a value, or 1 and a script.
+// Numbers that an item takes: its kind, and then a value or a script.
 pub const ITEM_SIZE: usize = 130;
+
+// The kind of an item that is written by hand.
+const WRITTEN: u64 = 0;
+
+// The kind of an item that is made by a script; any other number is read as this one.
+const MADE: u64 = 1;
 
 // Items that a desk has at most; a count above it is read as the most.
 pub const MAX_ITEMS: usize = 256;
@@ -46,7 +54,7 @@ pub fn item_of(items: &[u64], item: u64) -> Item<'_>
 fn first_item(row: &[u64]) -> Item<'_>
     ensures { ReadsFirst row.now result }
 {
-    if number_after(row, 0, 0) == 0 {
+    if number_after(row, 0, 0) == WRITTEN {
         return Item::Written(number_after(row, 1, 0));
     }
     Item::Made(tail(row, 1))

@@ -5,13 +5,9 @@ ghost use Rattle.script.specs.Allowed.{counted_as};
 ghost use Rattle.script.specs.Layout.{max_lines};
 ghost use Rattle.theory.specs.Items.{made, written};
 
-use super::{ITEM_SIZE, item_count};
+use super::{ITEM_SIZE, MADE, WRITTEN, item_count};
 use script::{MAX_LINES, SourceLine};
 use script_rows::write_source;
-
-const WRITTEN: u64 = 0;
-
-const MADE: u64 = 1;
 
 // The item becomes this value, if the row has the item with all its numbers; otherwise nothing changes.
 pub fn write_value(items: &mut [u64], item: u64, value: u64)
@@ -48,11 +44,7 @@ fn start_of(items: &[u64], item: u64) -> Option<usize>
         return None;
     }
     let start = 1 + ITEM_SIZE * item as usize;
-    if start + ITEM_SIZE <= items.len() {
-        Some(start)
-    } else {
-        None
-    }
+    (start + ITEM_SIZE <= items.len()).then_some(start)
 }
 
 fn fill_value(row: &mut [u64], value: u64)

@@ -5,18 +5,16 @@ ghost use Rattle.theory.specs.BuildLaws.{BuildsExist, CutShort, FewAskings, OneB
 ghost use Rattle.theory.specs.Laws.{BoundEnough, HonestUsable, LooksNoFurther, NoNewRing, OneValue, RingExactly};
 ghost use Rattle.theory.specs.Worked.{WorkedDay};
 
-pub fn laws() -> u8
+pub fn laws()
     ensures bound_enough { BoundEnough }
     ensures one_value { OneValue }
     ensures honest_usable { HonestUsable }
     ensures looks_no_further { LooksNoFurther }
     ensures no_new_ring { NoNewRing }
     ensures ring_exactly { RingExactly }
-{
-    0
-}
+{}
 
-pub fn build_laws() -> u8
+pub fn build_laws()
     ensures one_build { OneBuild }
     ensures second_runs_nothing { SecondRunsNothing }
     ensures cut_short { CutShort }
@@ -25,13 +23,9 @@ pub fn build_laws() -> u8
     ensures few_askings { FewAskings }
     ensures builds_exist { BuildsExist }
     ensures reference_fits { ReferenceFits }
-{
-    0
-}
+{}
 
 // One day at a desk of eight items, row by row.
-pub fn worked_day() -> u8
+pub fn worked_day()
     ensures { WorkedDay }
-{
-    0
-}
+{}

@@ -1,14 +1,8 @@
-use Rattle.std.proofs.Common.{◌<◌, ◌≤◌, length, sym, ap, ◌∙◌, subst, arith}
-use Rattle.std.proofs.lemmas.List.{get_or_past}
+use Rattle.std.proofs.Common.{◌<◌, length, sym, ap, ◌∙◌, subst, arith}
 use Rattle.rows.proofs.Counted.{counted_at}
 use Rattle.theory.specs.Items.{written}
 use Rattle.items.specs.Rows.{StandsFor, first_item, item_size, items_in, max_items}
 use Rattle.items.proofs.item_of.Goals as goal
-
-pub returns-then-item-item_count : goal.returns-then-item-item_count
-returns-then-item-item_count c =
-    let past : length (items_in c.args.items.now) ≤ c.args.item = omega (arith, c.item_count.ensures.value, c.if-item-item_count.true) in
-    get_or_past _ _ _ past
 
 pub returns : goal.returns
 returns c =
