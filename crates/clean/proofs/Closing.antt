@@ -1,8 +1,9 @@
 -- What running the script of an open item, and marking it as known, makes of the marks. Assumes nothing.
-use Rattle.std.proofs.Common.{◌≡◌, ℕ, List, set, sym, refl, ◌∙◌, subst, inl, inr, ⊎_elim, arith}
+use Rattle.std.proofs.Common.{◌≡◌, ℕ, List, Ok, Err, Result, set, sym, refl, ◌∙◌, subst, inl, inr, ⊎_elim, arith}
 use Rattle.std.proofs.lemmas.List.{length-set}
 use Rattle.std.proofs.lemmas.Bool.{cases_eq}
 use Rattle.script.specs.Rule.{Script, Value, task_of}
+use Rattle.items.specs.declared.ring.Ring.{Ring}
 use Rattle.theory.specs.Clean.{Reached, by_script, itself, on}
 use Rattle.theory.specs.Items.{Item, item, made}
 use Rattle.theory.proofs.Needs.{reached_join}
@@ -10,8 +11,6 @@ use Rattle.theory.proofs.Rings.{made_there}
 use Rattle.clean.specs.Marks.{IsKnown, IsOpen, Settled, by_hand, by_mark}
 use Rattle.clean.specs.Outcomes.{Below, Evaluated, Kept, Ran}
 use Rattle.clean.specs.Sound.{Finished, Sound}
-use Rattle.clean.specs.declared.answer.CleanAnswer.{CleanAnswer}
-use Rattle.clean.specs.declared.answer.CleanAnswer.TheVariants.{Value as Valued, Ring}
 use Rattle.clean.specs.declared.mark.Mark.{Mark}
 use Rattle.clean.specs.declared.mark.Mark.TheVariants.{Open, Known}
 use Rattle.clean.proofs.Kept.{kept_join, kept_more}
@@ -20,7 +19,7 @@ use Rattle.clean.proofs.Opening.{Opening, finished_kept, now_open, open_before, 
 
 module _ {d : List Item} {ms : List Mark} {k : ℕ} {s : Script} (o : Opening d ms k s) where
   -- its script is run
-  module _ {ms₂ : List Mark} {r : CleanAnswer} (ran : Ran d (set ms k Open) ms₂ (task_of s) r) where
+  module _ {ms₂ : List Mark} {r : Result Value Ring} (ran : Ran d (set ms k Open) ms₂ (task_of s) r) where
     looked : (j : ℕ) → Below d (task_of s) j → Reached d k j
     looked j b = reached_join (on itself o.is_made b.asked) b.looked
 
@@ -31,8 +30,8 @@ module _ {d : List Item} {ms : List Mark} {k : ℕ} {s : Script} (o : Opening d 
     open_still = ran.kept.open_still k (now_open o)
 
   -- it met a ring
-  pub held_evaluated : {ms₂ : List Mark} → Ran d (set ms k Open) ms₂ (task_of s) Ring → Evaluated d ms ms₂ k Ring
-  held_evaluated ran = record {
+  pub held_evaluated : {ms₂ : List Mark} (r : Ring) → Ran d (set ms k Open) ms₂ (task_of s) (Err r) → Evaluated d ms ms₂ k (Err r)
+  held_evaluated r ran = record {
     sound = ran.sound;
     kept = kept_so_far ran;
     outcome = record {
@@ -50,7 +49,7 @@ module _ {d : List Item} {ms : List Mark} {k : ℕ} {s : Script} (o : Opening d 
   }
 
   -- it gave v, and the item is marked as known
-  module _ {ms₂ : List Mark} {v : Value} (ran : Ran d (set ms k Open) ms₂ (task_of s) (Valued v)) where
+  module _ {ms₂ : List Mark} {v : Value} (ran : Ran d (set ms k Open) ms₂ (task_of s) (Ok v)) where
     known_now : IsKnown (set ms₂ k (Known v)) k v
     known_now = mark_here ms₂ k (Known v) (omega (arith, made_there d k o.is_made, ran.sound.room))
 
@@ -90,7 +89,7 @@ module _ {d : List Item} {ms : List Mark} {k : ℕ} {s : Script} (o : Opening d 
     open_else_then : (j : ℕ) → IsOpen (set ms₂ k (Known v)) j → (j ≡ k → ⊥)
     open_else_then j e same = open_known e (subst (λ x. IsKnown (set ms₂ k (Known v)) x v) (sym same) known_now)
 
-    pub known_evaluated : Evaluated d ms (set ms₂ k (Known v)) k (Valued v)
+    pub known_evaluated : Evaluated d ms (set ms₂ k (Known v)) k (Ok v)
     known_evaluated = record {
       sound = known_sound;
       kept = known_kept;

@@ -6,7 +6,5 @@ pub mod Already
 pub mod Opening
 pub mod Closing
 pub mod Bounds
-pub mod Pushing
-pub mod InRow
 pub mod Complete
 pub mod Whole

@@ -14,7 +14,7 @@ use Rattle.clean.specs.declared.mark.Mark.TheVariants.{Unseen, Open}
 use Rattle.clean.proofs.Kept.{settled_kept}
 use Rattle.clean.proofs.Marks.{mark_else, mark_here, marked_fewer, open_known, opened_fewer, unseen_known, unseen_open}
 
-pub marked_there : {d : List Item} {ms : List Mark} (k : ℕ) {s : Script} → Sound d ms → item d k ≡ made s → k < length ms
+marked_there : {d : List Item} {ms : List Mark} (k : ℕ) {s : Script} → Sound d ms → item d k ≡ made s → k < length ms
 marked_there {d} k sound is = omega (arith, made_there d k is, sound.room)
 
 pub finished_kept : {d : List Item} {ms ms₁ : List Mark} {k : ℕ} {v : Value} → ((j : ℕ) → Settled d ms j → Settled d ms₁ j) → Finished d ms k v → Finished d ms₁ k v

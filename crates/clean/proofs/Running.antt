@@ -1,15 +1,14 @@
 -- A script that is run, asking by asking: what holds of the registers and the marks. Assumes nothing.
-use Rattle.std.proofs.Common.{◌≡◌, ℕ, List, [], sym, subst, inl, inr, ⊎_elim}
+use Rattle.std.proofs.Common.{◌≡◌, ℕ, List, [], Ok, Err, Result, sym, subst, inl, inr, ⊎_elim}
 use Rattle.script.specs.Rule.{Script, Task, Value, asks, done, task_of}
 use Rattle.machine.specs.Machine.{rest, start}
 use Rattle.machine.specs.declared.registers.Registers.{Registers}
 use Rattle.machine.proofs.Steps.{rest_start}
+use Rattle.items.specs.declared.ring.Ring.{Ring}
 use Rattle.theory.specs.Clean.{ends, now}
 use Rattle.theory.specs.Items.{Item}
 use Rattle.clean.specs.Outcomes.{Below, Evaluated, Kept, NoneOpened, Ran}
 use Rattle.clean.specs.Sound.{Sound}
-use Rattle.clean.specs.declared.answer.CleanAnswer.{CleanAnswer}
-use Rattle.clean.specs.declared.answer.CleanAnswer.TheVariants.{Value as Valued, Ring}
 use Rattle.clean.specs.declared.mark.Mark.{Mark}
 use Rattle.clean.proofs.Came.{Came, came_answer, came_heard, came_held, came_kept, came_start}
 use Rattle.clean.proofs.Kept.{kept_join, kept_more, kept_same, settled_kept}
@@ -30,7 +29,7 @@ running_start {d} {ms} s g is so = record {
 }
 
 module _ {d : List Item} {s : Script} {ms ms₁ : List Mark} {g : Registers} (so_far : Running d s ms ms₁ g) where
-  pub running_ends : (v : Value) → rest s g ≡ done v → Ran d ms ms₁ (task_of s) (Valued v)
+  pub running_ends : (v : Value) → rest s g ≡ done v → Ran d ms ms₁ (task_of s) (Ok v)
   running_ends v is =
       let came = subst (Came d ms₁ (task_of s)) is so_far.came in
       let run = came.gives v [] ends in
@@ -41,7 +40,7 @@ module _ {d : List Item} {s : Script} {ms ms₁ : List Mark} {g : Registers} (so
       }
 
   -- the script asks for item k, which is then evaluated
-  module _ {k : ℕ} {c : Value → Task} (is : rest s g ≡ asks k c) {ms₂ : List Mark} {r : CleanAnswer} (now_is : Evaluated d ms₁ ms₂ k r) where
+  module _ {k : ℕ} {c : Value → Task} (is : rest s g ≡ asks k c) {ms₂ : List Mark} {r : Result Value Ring} (now_is : Evaluated d ms₁ ms₂ k r) where
     asked : Came d ms₂ (task_of s) (asks k c)
     asked = came_kept (settled_kept now_is.kept) (subst (Came d ms₁ (task_of s)) is so_far.came)
 
@@ -49,7 +48,7 @@ module _ {d : List Item} {s : Script} {ms ms₁ : List Mark} {g : Registers} (so
     kept_on = kept_join so_far.kept (kept_more (λ j l. record { first = k; asked = asked.on k now; looked = l }) now_is.kept)
 
   module _ {k : ℕ} {c : Value → Task} (is : rest s g ≡ asks k c) {ms₂ : List Mark} where
-    pub running_on : (v : Value) (g₁ : Registers) → Evaluated d ms₁ ms₂ k (Valued v) → rest s g₁ ≡ c v → Running d s ms ms₂ g₁
+    pub running_on : (v : Value) (g₁ : Registers) → Evaluated d ms₁ ms₂ k (Ok v) → rest s g₁ ≡ c v → Running d s ms ms₂ g₁
     running_on v g₁ valued on = record {
       sound = valued.sound;
       kept = kept_on is valued;
@@ -57,8 +56,8 @@ module _ {d : List Item} {s : Script} {ms ms₁ : List Mark} {g : Registers} (so
       came = subst (Came d ms₂ (task_of s)) (sym on) (came_answer (asked is valued) valued.outcome.makes valued.outcome.settled);
     }
 
-    pub running_held : Evaluated d ms₁ ms₂ k Ring → Ran d ms ms₂ (task_of s) Ring
-    running_held held = record {
+    pub running_held : (r : Ring) → Evaluated d ms₁ ms₂ k (Err r) → Ran d ms ms₂ (task_of s) (Err r)
+    running_held r held = record {
       sound = held.sound;
       kept = kept_on is held;
       outcome = record {

@@ -1,7 +1,9 @@
 -- What a clean build answers and lists. Assumes nothing: these are definitions.
-use Rattle.std.specs.Prelude.{◌≡◌, ℕ, ◌+◌, Bool, true, false, cond, List, [], ◌∷◌, ◌++◌, length, drop, Some, None, Option, nat_lt}
+use Rattle.std.specs.Prelude.{◌≡◌, ℕ, ◌+◌, Bool, true, false, cond, List, [], length, Some, None, Option, Ok, Err, Result, nat_lt}
 use Rattle.script.specs.declared.refusal.Refusal.{Refusal}
 use Rattle.script.specs.declared.refusal.Refusal.TheVariants.{ListTooShort}
+use Rattle.items.specs.Listing.{listed}
+use Rattle.items.specs.declared.ring.Ring.{Ring as NeedsItself}
 use Rattle.theory.specs.Build.{Built}
 use Rattle.theory.specs.Clean.{Out, clean, ring, value}
 use Rattle.theory.specs.Items.{Item}
@@ -16,13 +18,14 @@ abbrev pub says : Out → CleanAnswer
 says (value v) = Value v
 says ring = Ring
 
+-- what an evaluation came to, as an answer
+abbrev pub answer_of : Result ℕ NeedsItself → CleanAnswer
+answer_of (Ok v) = Value v
+answer_of (Err r) = Ring
+
 -- the list has to have room for every item, behind a count
 abbrev pub list_fault : List Item → List ℕ → Option Refusal
 list_fault d row = cond (nat_lt (length row) (1 + length d)) (Some (ListTooShort (length row))) None
-
--- the row with a list, behind its length, in its first places
-abbrev pub listed : List ℕ → List ℕ → List ℕ
-listed ran row = length ran ∷ (ran ++ drop (1 + length ran) row)
 
 -- the list that is told is that of a build with no store
 pub record Listed (d : List Item) (k : ℕ) (before after : List ℕ) : Type 0 where

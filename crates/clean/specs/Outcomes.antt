@@ -1,13 +1,12 @@
 -- What evaluating an item, and running a script, does to the marks. Assumes nothing: these are definitions.
-use Rattle.std.specs.Prelude.{◌≡◌, ℕ, ◌≤◌, ◌⊎◌, List}
+use Rattle.std.specs.Prelude.{◌≡◌, ℕ, ◌≤◌, ◌⊎◌, List, Ok, Err, Result}
 use Rattle.script.specs.Rule.{Script, Task, Value, task_of}
 use Rattle.entry.specs.declared.asking.Asking.{Asking}
+use Rattle.items.specs.declared.ring.Ring.{Ring}
 use Rattle.theory.specs.Clean.{Asks, Makes, Reached, Runs}
 use Rattle.theory.specs.Items.{Item, item, made}
 use Rattle.clean.specs.Marks.{IsKnown, IsOpen, Seen, Settled, unseen}
 use Rattle.clean.specs.Sound.{Sound}
-use Rattle.clean.specs.declared.answer.CleanAnswer.{CleanAnswer}
-use Rattle.clean.specs.declared.answer.CleanAnswer.TheVariants.{Value as Valued, Ring}
 use Rattle.clean.specs.declared.mark.Mark.{Mark}
 
 -- item k is looked at from an item that the task asks for
@@ -51,9 +50,9 @@ pub record ItemHeld (d : List Item) (ms ms₁ : List Mark) (k : ℕ) : Type 0 wh
   pub is_open : IsOpen ms₁ k
   pub opened : OpenedWait d ms ms₁
 
-abbrev pub ItemOut : List Item → List Mark → List Mark → ℕ → CleanAnswer → Type 0
-ItemOut d ms ms₁ k (Valued v) = ItemValued d ms ms₁ k v
-ItemOut d ms ms₁ k Ring = ItemHeld d ms ms₁ k
+abbrev pub ItemOut : List Item → List Mark → List Mark → ℕ → Result Value Ring → Type 0
+ItemOut d ms ms₁ k (Ok v) = ItemValued d ms ms₁ k v
+ItemOut d ms ms₁ k (Err r) = ItemHeld d ms ms₁ k
 
 pub record RunEnded (d : List Item) (ms ms₁ : List Mark) (t : Task) (v : Value) : Type 0 where
   pub askings : List Asking
@@ -65,18 +64,18 @@ pub record RunHeld (d : List Item) (ms ms₁ : List Mark) (t : Task) : Type 0 wh
   pub held : Held d ms₁ t
   pub opened : OpenedWait d ms ms₁
 
-abbrev pub RunOut : List Item → List Mark → List Mark → Task → CleanAnswer → Type 0
-RunOut d ms ms₁ t (Valued v) = RunEnded d ms ms₁ t v
-RunOut d ms ms₁ t Ring = RunHeld d ms ms₁ t
+abbrev pub RunOut : List Item → List Mark → List Mark → Task → Result Value Ring → Type 0
+RunOut d ms ms₁ t (Ok v) = RunEnded d ms ms₁ t v
+RunOut d ms ms₁ t (Err r) = RunHeld d ms ms₁ t
 
 -- item k was evaluated, and r came out
-pub record Evaluated (d : List Item) (ms ms₁ : List Mark) (k : ℕ) (r : CleanAnswer) : Type 0 where
+pub record Evaluated (d : List Item) (ms ms₁ : List Mark) (k : ℕ) (r : Result Value Ring) : Type 0 where
   pub sound : Sound d ms₁
   pub kept : Kept (Reached d k) ms ms₁
   pub outcome : ItemOut d ms ms₁ k r
 
 -- task t was run, and r came out
-pub record Ran (d : List Item) (ms ms₁ : List Mark) (t : Task) (r : CleanAnswer) : Type 0 where
+pub record Ran (d : List Item) (ms ms₁ : List Mark) (t : Task) (r : Result Value Ring) : Type 0 where
   pub sound : Sound d ms₁
   pub kept : Kept (Below d t) ms ms₁
   pub outcome : RunOut d ms ms₁ t r

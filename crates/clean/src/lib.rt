@@ -8,15 +8,12 @@ ghost use Rattle.std.specs.Result.{result_err};
 ghost use Rattle.theory.specs.Clean.{clean};
 
 mod answer;
-mod evaluate;
-mod listing;
+mod evaluation;
 mod mark;
 
 pub use answer::CleanAnswer;
-use evaluate::evaluate;
-use items::{MAX_ITEMS, item_count};
-use listing::list_known;
-use mark::Mark;
+use evaluation::Evaluation;
+use items::{item_count, list_runs};
 use script::Refusal;
 
 // Builds an item of the row. `ran` takes the count of the items whose scripts ran to their end, and then their numbers;
@@ -32,8 +29,8 @@ pub fn clean_build(items: &[u64], ran: &mut [u64], item: u64) -> Result<CleanAns
             length: ran.len() as u64,
         });
     }
-    let mut marks = [Mark::Unseen; MAX_ITEMS];
-    let answer = evaluate(items, &mut marks, count, item);
-    list_known(&marks, count, ran);
-    Ok(answer)
+    let mut evaluation = Evaluation::new(items);
+    let answer = evaluation.evaluate(count, item);
+    list_runs(&evaluation, count, ran);
+    Ok(answer.into())
 }
