@@ -1,7 +1,6 @@
 use Rattle.std.proofs.Common.{length, ap, ◌∙◌, arith}
 use Rattle.items.specs.Listing.{listed}
 use Rattle.items.specs.Rows.{items_in}
-use Rattle.std.proofs.lemmas.Bool.Decides.{nat_tests}
 use Rattle.clean.specs.Builds.{known_items}
 use Rattle.clean.proofs.Bounds.{items_few}
 use Rattle.clean.proofs.Marks.{none_seen}
