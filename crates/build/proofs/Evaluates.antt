@@ -1,5 +1,5 @@
 -- An item that is evaluated without being made: written, known, or open. Assumes nothing.
-use Rattle.std.proofs.Common.{◌≡◌, ℕ, ◌<◌, ◌≤◌, List, length, Ok, arith}
+use Rattle.std.proofs.Common.{◌≡◌, ℕ, ◌<◌, ◌≤◌, ◌⊎◌, List, length, Ok, sym, ◌∙◌, ⊎_elim, arith}
 use Rattle.script.specs.Rule.{Script, Value}
 use Rattle.entry.specs.Entry.{Entry}
 use Rattle.entry.specs.declared.asking.Asking.{Asking}
@@ -12,6 +12,7 @@ use Rattle.build.specs.Made.{EndsOpen, Evaluated}
 use Rattle.build.specs.Scratch.{state_of}
 use Rattle.build.specs.Sound.{Known, Ready, by_entry, by_hand, by_run}
 use Rattle.build.specs.declared.scratch.Scratch.{Scratch}
+use Rattle.build.specs.declared.scratch.State.{State}
 use Rattle.build.specs.declared.scratch.State.TheVariants.{Found, Open, Ran, Unseen}
 use Rattle.build.proofs.Grows.{ended_none, went_none}
 use Rattle.build.proofs.States.{unseen_some}
@@ -31,11 +32,15 @@ module _ {d : List Item} {es : List Entry} {σ : Scratch} {depth : ℕ} (ready :
   pub is_written : {v : Value} → item d j ≡ written v → Evaluated d es σ j (Ok v) σ
   is_written e = (went_none ready.sound, as_written e, by_hand e)
 
-  pub is_found : {v : Value} → state_of σ j ≡ Found v → Evaluated d es σ j (Ok v) σ
+  is_found : {v : Value} → state_of σ j ≡ Found v → Evaluated d es σ j (Ok v) σ
   is_found {v} e = (went_none ready.sound, known_makes (ready.sound.found j v e).1.1, by_entry e)
 
-  pub is_ran : {v : Value} {row : List ℕ} → state_of σ j ≡ Ran v row → Evaluated d es σ j (Ok v) σ
+  is_ran : {v : Value} {row : List ℕ} → state_of σ j ≡ Ran v row → Evaluated d es σ j (Ok v) σ
   is_ran {v} {row} e = (went_none ready.sound, known_makes (ready.sound.ran j v row e).1, by_run e)
+
+  -- an entry gave the value, or a run did
+  pub is_known : {v : Value} (t : State) → t ≡ state_of σ j → (t ≡ Found v) ⊎ ((row : List ℕ) × (t ≡ Ran v row)) → Evaluated d es σ j (Ok v) σ
+  is_known t is known = ⊎_elim (λ e. is_found (sym is ∙ e)) (λ r. is_ran (sym is ∙ r.1)) known
 
   pub is_open : state_of σ j ≡ Open → EndsOpen d es σ j σ
   is_open e = (ended_none ready.sound, e)

@@ -8,10 +8,18 @@ use Rattle.store.specs.Faults.{add_fault}
 use Rattle.store.specs.Rows.{added}
 use Rattle.theory.specs.Items.{Item}
 use Rattle.theory.specs.Reference.{passing}
+use Rattle.theory.proofs.Passing.{passing_push, passing_skip}
 use Rattle.build.specs.Leaves.{is_run, kept_all, kept_one, left_all, left_of, ran_list, unless_fault}
 use Rattle.build.specs.Scratch.{state_of}
 use Rattle.build.specs.declared.scratch.Scratch.{Scratch}
-use Rattle.build.proofs.Listing.{ran_more, ran_same}
+use Rattle.build.specs.declared.scratch.State.{State}
+use Rattle.build.specs.declared.scratch.State.TheVariants.{Found, Open, Ran, Unseen}
+
+pub not_run : (t : State) → ((v : ℕ) (row : List ℕ) → t ≡ Ran v row → ⊥) → is_run t ≡ false
+not_run Unseen other = refl
+not_run Open other = refl
+not_run (Found v) other = refl
+not_run (Ran v row) other = absurd (other v row refl)
 
 pub kept_push : (rows : List ℕ) (es : List Entry) (e : Entry) → kept_all rows (es ++ e ∷ []) ≡ kept_one (kept_all rows es) e
 unfolding kept_all
@@ -33,7 +41,7 @@ module _ (d : List Item) (σ : Scratch) (rows : List ℕ) where
 
   module _ (i : ℕ) (row : List ℕ) (so_far : Keeping d σ rows i row) where
     pub keeping_same : is_run (state_of σ i) ≡ false → Keeping d σ rows (i + 1) row
-    keeping_same e = so_far ∙ ap (λ js. kept_all rows (left_all d σ js)) (sym (ran_same σ i e))
+    keeping_same e = so_far ∙ ap (λ js. kept_all rows (left_all d σ js)) (sym (passing_skip (λ j. is_run (state_of σ j)) i e))
 
     pub keeping_more : {A : Type 0} (r : Result A Refusal) (e : Entry) (row₁ : List ℕ) → is_run (state_of σ i) ≡ true → e ≡ left_of d σ i → result_err r ≡ add_fault row → row₁ ≡ cond (is_ok r) (added row e) row → Keeping d σ rows (i + 1) row₁
     keeping_more r e row₁ ran is fault after =
@@ -42,4 +50,4 @@ module _ (d : List Item) (σ : Scratch) (rows : List ℕ) where
         ∙ (λ x. kept_one (so_far x) (is x))
         ∙ sym (kept_push rows (left_all d σ list) (left_of d σ i))
         ∙ ap (kept_all rows) (sym (map_push (left_of d σ) list i))
-        ∙ ap (λ js. kept_all rows (left_all d σ js)) (sym (ran_more σ i ran))
+        ∙ ap (λ js. kept_all rows (left_all d σ js)) (sym (passing_push (λ j. is_run (state_of σ j)) i ran))

@@ -9,7 +9,6 @@ mod Parts
 mod Tests
 mod Recalls
 mod Runs
-mod Listing
 mod Keeping
 mod Locals
 mod Added

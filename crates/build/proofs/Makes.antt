@@ -1,5 +1,5 @@
 -- An item that was not seen is opened, and settled by an entry or a run; or it stays open. Assumes nothing.
-use Rattle.std.proofs.Common.{◌≡◌, ℕ, suc, ◌<◌, ◌⊎◌, List, length, Ok, Result, sym, refl, ap, ◌∙◌, subst, inl, inr, ⊎_elim, arith}
+use Rattle.std.proofs.Common.{◌≡◌, ℕ, suc, ◌<◌, ◌⊎◌, List, length, Option, Ok, Result, sym, refl, ap, ◌∙◌, subst, inl, inr, ⊎_elim, arith}
 use Rattle.std.specs.Result.{IsErr}
 use Rattle.std.proofs.lemmas.Bool.{cases_eq}
 use Rattle.script.specs.Rule.{Script, Value, done, task_of}
@@ -12,7 +12,7 @@ use Rattle.theory.specs.Items.{Item, item, made}
 use Rattle.theory.proofs.Needs.{reached_join}
 use Rattle.theory.proofs.Rings.{made_there}
 use Rattle.theory.proofs.Values.{written_made}
-use Rattle.build.specs.Made.{EndsOpen, EndsWaiting, Evaluated}
+use Rattle.build.specs.Made.{EndsOpen, EndsWaiting, Evaluated, RecalledSo}
 use Rattle.build.specs.Scratch.{marked, state_of}
 use Rattle.build.specs.Sound.{Ended, Grown, Held, Known, Later, Looked, Ready, Settled, Sound, Waiting, Walked, Went, by_entry, by_hand, by_run}
 use Rattle.items.specs.declared.ring.Ring.{Ring}
@@ -23,6 +23,10 @@ use Rattle.build.proofs.Grows.{by_ring}
 use Rattle.build.proofs.Marks.{Marks, marks, marks_keeps, marks_sound}
 use Rattle.build.proofs.States.{found_shut, later_unseen, open_seen, ran_shut, unseen_less}
 use Rattle.build.proofs.Walks.{later_keeps, walked_keeps, walked_runs}
+
+-- what the entries say, by the value that it is found to be
+pub recalled_as : (d : List Item) (es : List Entry) (s : Script) (σ σ₁ : Scratch) {x y : Option Value} → x ≡ y → RecalledSo d es s σ (Ok x) σ₁ → RecalledSo d es s σ (Ok y) σ₁
+recalled_as d es s σ σ₁ e r = subst (λ o. RecalledSo d es s σ (Ok o) σ₁) e r
 
 found_one : {t : State} {v w : Value} → t ≡ Found v → t ≡ Found w → v ≡ w
 found_one p q = cc

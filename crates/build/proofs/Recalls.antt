@@ -1,5 +1,5 @@
 -- The entries are gone through in order until one saves the script. Assumes nothing.
-use Rattle.std.proofs.Common.{◌≡◌, ℕ, ◌+◌, ◌*◌, ◌<◌, ◌≤◌, List, length, get_or, drop, true, false, Some, None, Option, Ok, Result, sym, ap, ◌∙◌, subst, ⊎_elim, arith}
+use Rattle.std.proofs.Common.{◌≡◌, ℕ, ◌+◌, ◌*◌, ◌<◌, ◌≤◌, List, length, get_or, drop, Bool, true, false, Some, None, Option, Ok, Result, sym, ap, ◌∙◌, subst, ⊎_elim, arith}
 use Rattle.std.specs.Result.{IsErr}
 use Rattle.std.proofs.lemmas.Bool.{cases_eq}
 use Rattle.script.specs.Rule.{Script, Value, done, task_of}
@@ -12,6 +12,10 @@ use Rattle.build.specs.Sound.{Ended, Held, Looked, Ready, Sound, Walked, Went}
 use Rattle.items.specs.declared.ring.Ring.{Ring}
 use Rattle.build.specs.declared.scratch.Scratch.{Scratch}
 use Rattle.build.proofs.Grows.{by_ring, ended_join, ready_grown, went_join, went_none}
+
+-- how its answers are, by what the test is found to be
+pub agreed_as : (d : List Item) (es : List Entry) (e : Entry) (σ σ₁ : Scratch) {x y : Bool} → x ≡ y → AgreedSo d es e σ (Ok x) σ₁ → AgreedSo d es e σ (Ok y) σ₁
+agreed_as d es e σ σ₁ same r = subst (λ b. AgreedSo d es e σ (Ok b) σ₁) same r
 
 -- none of the first i entries saves a run of the script
 pub record Recalling (d : List Item) (es : List Entry) (s : Script) (σ : Scratch) (i : ℕ) (σ₁ : Scratch) : Type 0 where

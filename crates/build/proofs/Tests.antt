@@ -26,6 +26,7 @@ use Rattle.build.specs.Sound.{Looked, Ready, Settled, Sound, Went}
 use Rattle.items.specs.declared.ring.Ring.{Ring}
 use Rattle.build.specs.declared.scratch.Scratch.{Scratch}
 use Rattle.build.proofs.Grows.{asked_looked, by_ring, ended_join, ready_grown, went_join, went_none}
+use Rattle.build.proofs.Parts.{piece_there}
 use Rattle.build.proofs.Walks.{all_keeps, later_keeps}
 
 -- the parts that stand behind the count of askings are the entry's askings
@@ -36,6 +37,10 @@ asked_parts row {askings} {rest} {n} is behind many all =
     ∙ map_chunks first_asking asking_size n rest
     ∙ (λ i. chunks first_asking asking_size (count i) (behind i))
     ∙ ap askings_in is
+
+-- the next part is the next asking
+pub asking_there : (qs : List Asking) (i : ℕ) {parts more : List (List ℕ)} {part : List ℕ} (q : Asking) → map first_asking parts ≡ drop i qs → parts ≡ part ∷ more → q ≡ first_asking part → (i < length qs) × (get_or qs i q ≡ q)
+asking_there qs i q left next is = let (inside, same) = piece_there first_asking qs i left next q in (inside, sym (is ∙ same))
 
 -- the first i answers are right, and what they name is settled
 pub record Trying (d : List Item) (es : List Entry) (e : Entry) (σ : Scratch) (i : ℕ) (σ₁ : Scratch) : Type 0 where

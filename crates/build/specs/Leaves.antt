@@ -1,11 +1,12 @@
 -- What a build leaves, from what its scratch says. Assumes nothing: these are definitions.
-use Rattle.std.specs.Prelude.{ℕ, ◌+◌, Bool, true, false, List, [], ◌∷◌, ◌++◌, map, length, drop, Some, None, Option}
+use Rattle.std.specs.Prelude.{ℕ, Bool, true, false, List, [], ◌∷◌, map, Some, None, Option}
 use Rattle.script.specs.Rule.{Script}
 use Rattle.script.specs.declared.refusal.Refusal.{Refusal}
 use Rattle.entry.specs.Entry.{Entry, no_entry}
 use Rattle.entry.specs.Rows.{askings_in}
 use Rattle.store.specs.Faults.{add_fault}
 use Rattle.store.specs.Rows.{added}
+use Rattle.items.specs.Listing.{listed}
 use Rattle.theory.specs.Items.{Item, item, made, written}
 use Rattle.theory.specs.Reference.{passing}
 use Rattle.build.specs.Scratch.{state_of}
@@ -43,7 +44,7 @@ left_all d σ js = map (left_of d σ) js
 
 -- the list with its length in front; the rest of the row stays
 abbrev pub told : List ℕ → List ℕ → List ℕ
-told ran list = length list ∷ (list ++ drop (1 + length list) ran)
+told ran list = listed list ran
 
 -- the entries one after the other, each behind those that are kept
 unfoldable pub added_all : List ℕ → List Entry → List ℕ

@@ -5,13 +5,14 @@ ghost use Rattle.build.specs.Faults.{build_fault};
 ghost use Rattle.items.specs.Rows.{items_in};
 ghost use Rattle.std.specs.Result.{result_err};
 
-use super::ending::{keep_runs, list_runs};
+use super::ending::keep_runs;
 use super::lent::Lent;
 use super::scratch::Scratch;
-use items::{Ring, item_count};
+use items::{Ring, item_count, list_runs};
 use script::Refusal;
 use store::check_store;
 
+// One enum of all three, as the rules of the project name it.
 #[derive(Clone, Copy, PartialEq, Debug)]
 pub enum Answer {
     Value(u64),

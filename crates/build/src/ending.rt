@@ -1,6 +1,6 @@
-// What a build leaves: the list of the items that were run, and the entries of their runs.
-ghost use Rattle.std.specs.Prelude.{◌≡◌, ◌<◌, ◌≤◌, length};
-ghost use Rattle.build.specs.Leaves.{kept_all, left_all, ran_list, script_of, told};
+// What a build leaves beside its list: the entries of the items that were run.
+ghost use Rattle.std.specs.Prelude.{◌≡◌, ◌≤◌};
+ghost use Rattle.build.specs.Leaves.{kept_all, left_all, ran_list, script_of};
 ghost use Rattle.items.specs.Rows.{items_in, max_items};
 ghost use Rattle.script.specs.Rows.{script_in};
 ghost use Rattle.theory.specs.Items as theory;
@@ -9,30 +9,15 @@ use super::scratch::{Scratch, State};
 use items::{Item, item_of};
 use store::add_entry;
 
-// Writes the list of what was run, by rising number, with its length in front.
-pub fn list_runs(scratch: &Scratch, count: usize, ran: &mut [u64])
-    requires few { count ≤ max_items }
-    requires long { count < length ran.old }
-    ensures { ran.new ≡ told ran.old (ran_list scratch.now count) }
-{
-    let mut listed = 0;
-    for item in 0..count {
-        if let State::Ran(_, _) = scratch.state(item as u64) {
-            listed += 1;
-            ran[listed] = item as u64;
-        }
-    }
-    ran[0] = listed as u64;
-}
-
 // Adds the entries of the runs at the end of the store, in the order of the list, as many as there is room for.
 pub fn keep_runs(items: &[u64], scratch: &Scratch, count: usize, rows: &mut [u64])
     requires { count ≤ max_items }
     ensures { rows.new ≡ kept_all rows.old (left_all (items_in items.now) scratch.now (ran_list scratch.now count)) }
 {
-    for item in 0..count {
-        if let State::Ran(value, askings) = scratch.state(item as u64) {
-            let _ = add_entry(rows, script_row(items, item as u64), &askings, value);
+    // By its number, which the state and the script are looked up by.
+    for item in 0..count as u64 {
+        if let State::Ran(value, askings) = scratch.state(item) {
+            let _ = add_entry(rows, script_row(items, item), askings, *value);
         }
     }
 }

@@ -25,6 +25,7 @@ pub struct Gave {
     askings: [u64; ASKINGS_SIZE],
 }
 
+// What is lent stays beside the scratch, since the rows take the new entries while the scratch is still read.
 impl Scratch {
     // The value of an item. The depth is never used up before the items are.
     #[cycle(evaluate_make_recall_run_script_answers_agree)]
@@ -33,9 +34,8 @@ impl Scratch {
     {
         match item_of(lent.items, item) {
             Item::Written(value) => Ok(value),
-            Item::Made(script) => match self.state(item) {
-                State::Found(value) => Ok(value),
-                State::Ran(value, _) => Ok(value),
+            Item::Made(script) => match *self.state(item) {
+                State::Found(value) | State::Ran(value, _) => Ok(value),
                 State::Open => Err(Ring),
                 State::Unseen => {
                     if depth == 0 {
@@ -69,10 +69,8 @@ impl Scratch {
         ensures { IfReady lent.entry self.old depth (λ d es. RecalledSo d es (script_in script.now) self.old result self.new) }
     {
         for row in lent.entries() {
-            if same_script(script, row) {
-                if self.answers_agree(lent, depth, row)? {
-                    return Ok(Some(number_after(row, RESULT_AT, 0)));
-                }
+            if same_script(script, row) && self.answers_agree(lent, depth, row)? {
+                return Ok(Some(number_after(row, RESULT_AT, 0)));
             }
         }
         Ok(None)
@@ -86,8 +84,7 @@ impl Scratch {
         let askings = tail(row, SCRIPT_SIZE);
         for part in parts(tail(askings, 1), ASKING_SIZE, asking_count(askings)) {
             let asking = Asking::read(part, 0);
-            let value = self.evaluate(lent, depth, asking.item)?;
-            if value != asking.answer {
+            if self.evaluate(lent, depth, asking.item)? != asking.answer {
                 return Ok(false);
             }
         }

@@ -4,7 +4,7 @@ ghost use Rattle.items.specs.Rows.{max_items};
 ghost use Rattle.build.specs.Scratch.{fresh, marked, state_of};
 
 use entry::ASKINGS_SIZE;
-use items::MAX_ITEMS;
+use items::{HasRun, MAX_ITEMS};
 
 // How far one item has come in this build.
 #[derive(Clone, Copy)]
@@ -32,11 +32,11 @@ impl Scratch {
         }
     }
 
-    pub fn state(&self, item: u64) -> State
+    pub fn state(&self, item: u64) -> &State
         requires { item < max_items }
-        ensures { result ≡ state_of self.now item }
+        ensures { result.now ≡ state_of self.now item }
     {
-        self.states[item as usize]
+        &self.states[item as usize]
     }
 
     pub fn mark(&mut self, item: u64, state: State)
@@ -44,5 +44,16 @@ impl Scratch {
         ensures { self.new ≡ marked self.old item state }
     {
         self.states[item as usize] = state;
+    }
+}
+
+impl HasRun for Scratch {
+    ghost use Rattle.build.specs.Leaves.{is_run};
+    ghost use Rattle.build.specs.Scratch.{state_of};
+
+    ghost has_run = { λ scratch item. is_run (state_of scratch item) };
+
+    fn has_run(&self, item: u64) -> bool {
+        matches!(self.state(item), State::Ran(..))
     }
 }

@@ -1,8 +1,7 @@
 use Rattle.std.proofs.Common.{◌+◌, sym, ap, ◌∙◌, subst}
 use Rattle.items.specs.Rows.{items_in}
 use Rattle.build.specs.Leaves.{is_run, left_from}
-use Rattle.build.proofs.Keeping.{Keeping, keeping_more, keeping_none, keeping_same}
-use Rattle.build.proofs.Listing.{not_run}
+use Rattle.build.proofs.Keeping.{Keeping, keeping_more, keeping_none, keeping_same, not_run}
 use Rattle.build.proofs.ending.keep_runs.Goals as goal
 use Rattle.build.proofs.ending.keep_runs.Goals.{in-Ran, in_default}
 
@@ -17,11 +16,11 @@ loop-item-preserved c =
     let i = c.loop-item.item in
     elim c.match-state.branch [
       | in-Ran w ↦
-          let ran = w.in-Ran.ensures in
+          let ran = sym w.in-Ran.is ∙ c.state.ensures in
           subst (λ row. Keeping d σ rows (i + 1) row) (sym w.rows-is)
           (keeping_more d σ rows i c.loop-item.rows c.loop-item.invariant w.add_entry.result _ w.add_entry.new.rows (sym (ap is_run ran))
           (λ x. left_from (w.script_row.ensures x) (ran x)) w.add_entry.ensures.fault w.add_entry.ensures.after)
       | in_default w ↦
           subst (λ row. Keeping d σ rows (i + 1) row) (sym w.rows-is)
-          (keeping_same d σ rows i c.loop-item.rows c.loop-item.invariant (sym (ap is_run c.state.ensures) ∙ not_run c.state.result w.in_default.not-Ran))
+          (keeping_same d σ rows i c.loop-item.rows c.loop-item.invariant (sym (ap is_run c.state.ensures) ∙ not_run c.state.result.now w.in_default.not-Ran))
     ]
