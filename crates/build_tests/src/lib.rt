@@ -4,7 +4,6 @@
 mod answer;
 #[cfg(test)]
 mod desk;
-mod desk_row;
 #[cfg(test)]
 mod refused;
 #[cfg(test)]

@@ -1,16 +1,17 @@
 // Builds that are refused, and a store whose entry is not honest.
 use super::answer::answer_numbers;
-use super::desk::check_build;
-use super::desk_row::give_script;
+use super::desk::DeskInUse;
 use build::{Answer, build_item};
+use rows::{number_after, put_all};
 use script::Refusal;
+use std::alloc::{AllocError, Global};
+use std::test::Fail;
 
-// A desk of two items, of which the second asks for the first.
-fn desk() -> [u64; 261] {
-    let mut items = [0; 261];
-    items[0] = 2;
-    give_script(&mut items, 1, &[[0, 0, 0, 0], [5, 0, 0, 0]]);
-    items
+// A desk of two items, of which the second asks for the first, with room for two entries.
+fn desk(heap: Global) -> Result<DeskInUse, AllocError> {
+    let mut used = DeskInUse::new(heap, 2, 2)?;
+    used.desk.give(1, &[[0, 0, 0, 0], [5, 0, 0, 0]]);
+    Ok(used)
 }
 
 // The item, the count and the room that the store names, the lengths of store and list, and the refusal.
@@ -38,8 +39,8 @@ const REFUSED: [(u64, u64, u64, usize, usize, Refusal); 6] = [
 ];
 
 #[test]
-fn refusals_in_order(rt: HostRuntime) {
-    let items = desk();
+fn refusals_in_order(rt: HostRuntime) -> Result<(), Fail> {
+    let used = desk(rt.alloc())?;
     for (item, count, room, long, listed, refusal) in REFUSED {
         let mut rows = [5; 392];
         rows[0] = count;
@@ -47,7 +48,12 @@ fn refusals_in_order(rt: HostRuntime) {
         let mut ran = [5; 3];
         if long <= 392 && listed <= 3 {
             assert_eq!(rt;
-                answer_numbers(build_item(&items, &mut rows[..long], &mut ran[..listed], item)),
+                answer_numbers(build_item(
+                    used.desk.row.as_slice(),
+                    &mut rows[..long],
+                    &mut ran[..listed],
+                    item
+                )),
                 answer_numbers(Answer::Refused(refusal))
             );
         }
@@ -55,30 +61,20 @@ fn refusals_in_order(rt: HostRuntime) {
         assert_eq!(rt; rows[2], 5);
         assert_eq!(rt; ran[0], 5);
     }
+    Ok(())
 }
 
 // An entry of the second item's script that asks for nothing is believed by a build, which ends and leaves it as it was.
 #[test]
-fn a_dishonest_entry(rt: HostRuntime) {
-    let items = desk();
-    let mut rows = [0; 392];
-    rows[0] = 1;
-    rows[1] = 2;
-    rows[2] = 2;
-    rows[7] = 5;
-    rows[196] = 99;
-    rows[391] = 4;
-    let mut ran = [5; 3];
-    check_build(
-        &rt,
-        &items,
-        &mut rows,
-        &mut ran,
-        1,
-        Answer::Value(99),
-        &[],
-        1,
-    );
-    assert_eq!(rt; rows[196], 99);
-    assert_eq!(rt; rows[391], 4);
+fn a_dishonest_entry(rt: HostRuntime) -> Result<(), Fail> {
+    let mut used = desk(rt.alloc())?;
+    let rows = used.rows.as_mut_slice();
+    put_all(rows, 0, &[1, 2, 2]);
+    put_all(rows, 7, &[5]);
+    put_all(rows, 196, &[99]);
+    put_all(rows, 391, &[4]);
+    used.check_build(&rt, 1, Answer::Value(99), &[], 1);
+    assert_eq!(rt; number_after(used.rows.as_slice(), 196, 0), 99);
+    assert_eq!(rt; number_after(used.rows.as_slice(), 391, 0), 4);
+    Ok(())
 }

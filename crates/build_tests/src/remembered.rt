@@ -1,7 +1,9 @@
 // What a build takes over from earlier ones, and what it does not: small days at a desk of four items, with room for four entries.
-use super::desk::{Deed, spend_day};
+use super::desk::{Deed, DeskInUse};
 use build::Answer;
+use std::alloc::Global;
 use std::process::Abort;
+use std::test::Fail;
 
 // Scripts that give what one item is, or the sum of two.
 const ITEM_0: &[[u64; 4]] = &[[0, 0, 0, 0], [5, 0, 0, 0]];
@@ -16,12 +18,10 @@ const SUM_0_1: &[[u64; 4]] = &[[0, 0, 0, 0], [0, 1, 1, 0], [3, 2, 0, 1], [5, 2, 
 
 const SUM_1_2: &[[u64; 4]] = &[[0, 0, 1, 0], [0, 1, 2, 0], [3, 2, 0, 1], [5, 2, 0, 0]];
 
-fn check_day(rt: &impl Abort, deeds: &[Deed]) {
-    let mut items = [0; 521];
-    items[0] = 4;
-    let mut rows = [0; 782];
-    rows[1] = 4;
-    spend_day(rt, &mut items, &mut rows, &mut [0; 5], deeds);
+fn check_day(rt: &impl Abort, heap: Global, deeds: &[Deed]) -> Result<(), Fail> {
+    let mut used = DeskInUse::new(heap, 4, 4)?;
+    used.spend_day(rt, deeds);
+    Ok(())
 }
 
 // Items 1 and 2 ask for each other, until 2 is written; and once more, which leaves the entry of item 1 unharmed.
@@ -38,8 +38,8 @@ const RING_COMES_AND_GOES: [Deed; 9] = [
 ];
 
 #[test]
-fn a_ring_is_not_remembered(rt: HostRuntime) {
-    check_day(&rt, &RING_COMES_AND_GOES);
+fn a_ring_is_not_remembered(rt: HostRuntime) -> Result<(), Fail> {
+    check_day(&rt, rt.alloc(), &RING_COMES_AND_GOES)
 }
 
 // Items 1 and 2 have the same script.
@@ -53,8 +53,8 @@ const SAME_SCRIPT_TWICE: [Deed; 6] = [
 ];
 
 #[test]
-fn an_entry_counts_from_the_next_build_on(rt: HostRuntime) {
-    check_day(&rt, &SAME_SCRIPT_TWICE);
+fn an_entry_counts_from_the_next_build_on(rt: HostRuntime) -> Result<(), Fail> {
+    check_day(&rt, rt.alloc(), &SAME_SCRIPT_TWICE)
 }
 
 // Items 0 and 1 change, and their sum does not.
@@ -71,8 +71,8 @@ const SAME_SUM: [Deed; 9] = [
 ];
 
 #[test]
-fn only_direct_answers_are_compared(rt: HostRuntime) {
-    check_day(&rt, &SAME_SUM);
+fn only_direct_answers_are_compared(rt: HostRuntime) -> Result<(), Fail> {
+    check_day(&rt, rt.alloc(), &SAME_SUM)
 }
 
 // Item 1's entry saves item 2, which has its script; item 1 itself gets another script.
@@ -88,8 +88,8 @@ const FILED_BY_SCRIPT: [Deed; 8] = [
 ];
 
 #[test]
-fn entries_are_filed_by_script_and_not_by_item(rt: HostRuntime) {
-    check_day(&rt, &FILED_BY_SCRIPT);
+fn entries_are_filed_by_script_and_not_by_item(rt: HostRuntime) -> Result<(), Fail> {
+    check_day(&rt, rt.alloc(), &FILED_BY_SCRIPT)
 }
 
 // Item 1's entry says that item 0 is 5, which it is no longer.
@@ -104,6 +104,6 @@ const OLD_ANSWER: [Deed; 7] = [
 ];
 
 #[test]
-fn a_due_item_is_answered_from_the_desk(rt: HostRuntime) {
-    check_day(&rt, &OLD_ANSWER);
+fn a_due_item_is_answered_from_the_desk(rt: HostRuntime) -> Result<(), Fail> {
+    check_day(&rt, rt.alloc(), &OLD_ANSWER)
 }

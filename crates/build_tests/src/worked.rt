@@ -1,7 +1,8 @@
 // One day at a desk of eight items, with room for four entries.
-use super::desk::{Deed, spend_day};
-use super::desk_row::{give_script, write_value};
+use super::desk::{Deed, DeskInUse};
 use build::Answer;
+use std::alloc::{AllocError, Global};
+use std::test::Fail;
 
 const DAY: [Deed; 12] = [
     Deed::Build(2, Answer::Value(8), &[2], 1),
@@ -18,18 +19,12 @@ const DAY: [Deed; 12] = [
     Deed::Build(7, Answer::Ring, &[], 4),
 ];
 
-fn desk() -> [u64; 1041] {
-    let mut items = [0; 1041];
-    items[0] = 8;
-    write_value(&mut items, 0, 5);
-    write_value(&mut items, 1, 3);
-    give_script(
-        &mut items,
-        2,
-        &[[0, 0, 0, 0], [0, 1, 1, 0], [3, 2, 0, 1], [5, 2, 0, 0]],
-    );
-    give_script(
-        &mut items,
+fn desk(heap: Global) -> Result<DeskInUse, AllocError> {
+    let mut used = DeskInUse::new(heap, 8, 4)?;
+    used.desk.write(0, 5);
+    used.desk.write(1, 3);
+    used.desk.give(2, &[[0, 0, 0, 0], [0, 1, 1, 0], [3, 2, 0, 1], [5, 2, 0, 0]]);
+    used.desk.give(
         3,
         &[
             [0, 0, 2, 0],
@@ -39,17 +34,17 @@ fn desk() -> [u64; 1041] {
             [5, 0, 0, 0],
         ],
     );
-    give_script(&mut items, 4, &[[0, 0, 3, 0], [5, 0, 0, 0]]);
-    give_script(&mut items, 5, &[[0, 0, 1, 0], [1, 0, 0, 0], [5, 0, 0, 0]]);
-    give_script(&mut items, 6, &[[0, 0, 900, 0], [5, 0, 0, 0]]);
-    give_script(&mut items, 7, &[[0, 0, 7, 0], [5, 0, 0, 0]]);
-    items
+    used.desk.give(4, &[[0, 0, 3, 0], [5, 0, 0, 0]]);
+    used.desk
+        .give(5, &[[0, 0, 1, 0], [1, 0, 0, 0], [5, 0, 0, 0]]);
+    used.desk.give(6, &[[0, 0, 900, 0], [5, 0, 0, 0]]);
+    used.desk.give(7, &[[0, 0, 7, 0], [5, 0, 0, 0]]);
+    Ok(used)
 }
 
 #[test]
-fn the_worked_day(rt: HostRuntime) {
-    let mut items = desk();
-    let mut rows = [0; 782];
-    rows[1] = 4;
-    spend_day(&rt, &mut items, &mut rows, &mut [77; 9], &DAY);
+fn the_worked_day(rt: HostRuntime) -> Result<(), Fail> {
+    let mut used = desk(rt.alloc())?;
+    used.spend_day(&rt, &DAY);
+    Ok(())
 }

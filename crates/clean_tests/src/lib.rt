@@ -3,7 +3,6 @@
 
 #[cfg(test)]
 mod chains;
-mod desk_row;
 #[cfg(test)]
 mod desks;
 #[cfg(test)]

@@ -1,54 +1,36 @@
 // When the lent list is too short, and how many items a row has.
-use super::desk_row::{add_made, add_written, desk_of};
 use clean::clean_build;
 use std::alloc::{AllocError, Global};
 use std::test::Fail;
-
-// The number and the place of the refusal, if there is one.
-fn told(items: &[u64], ran: &mut [u64], item: u64) -> Option<(u64, u64)> {
-    match clean_build(items, ran, item) {
-        Ok(_) => None,
-        Err(refusal) => Some((refusal.number(), refusal.place())),
-    }
-}
-
-fn list_of(heap: Global, length: usize) -> Result<Vec<u64>, AllocError> {
-    let mut list = Vec::new(heap);
-    for _ in 0..length {
-        list.push(7)?;
-    }
-    Ok(list)
-}
+use test_rows::{Desk, told};
 
 // Item 1 is made, and gives item 0.
-fn two_items(heap: Global) -> Result<Vec<u64>, AllocError> {
-    let mut row = desk_of(heap, 2)?;
-    add_written(&mut row, 5)?;
-    add_made(&mut row, &[[0, 0, 0, 0], [5, 0, 0, 0]])?;
-    Ok(row)
+fn two_items(heap: Global) -> Result<Desk, AllocError> {
+    let mut desk = Desk::new(heap, 2)?;
+    desk.write(0, 5);
+    desk.give(1, &[[0, 0, 0, 0], [5, 0, 0, 0]]);
+    Ok(desk)
 }
 
 #[test]
 fn short_lists_stay_as_they_are(rt: HostRuntime) -> Result<(), Fail> {
-    let items = two_items(rt.alloc())?;
+    let desk = two_items(rt.alloc())?;
     for length in 0..3 {
-        let mut ran = list_of(rt.alloc(), length)?;
-        let told = told(items.as_slice(), ran.as_mut_slice(), 1);
-        assert_eq!(rt; told, Some((14, length as u64)));
-        for number in ran.as_slice() {
-            assert_eq!(rt; *number, 7);
-        }
+        let mut ran = vec![in rt.alloc(); 7; length]?;
+        let built = clean_build(desk.row.as_slice(), ran.as_mut_slice(), 1);
+        assert_eq!(rt; told(built), Some((14, length as u64)));
+        assert!(rt; ran.iter().all(|number| *number == 7));
     }
     Ok(())
 }
 
 #[test]
 fn long_enough_lists(rt: HostRuntime) -> Result<(), Fail> {
-    let items = two_items(rt.alloc())?;
+    let desk = two_items(rt.alloc())?;
     let mut ran = [7; 3];
-    assert_eq!(rt; told(items.as_slice(), &mut ran, 1), None);
+    assert_eq!(rt; told(clean_build(desk.row.as_slice(), &mut ran, 1)), None);
     assert!(rt; ran == [1, 1, 7]);
-    assert_eq!(rt; told(items.as_slice(), &mut ran, 0), None);
+    assert_eq!(rt; told(clean_build(desk.row.as_slice(), &mut ran, 0)), None);
     assert!(rt; ran == [0, 1, 7]);
     Ok(())
 }
@@ -66,9 +48,9 @@ const COUNTS: [(u64, usize, Option<(u64, u64)>); 6] = [
 #[test]
 fn lists_for_many_items(rt: HostRuntime) -> Result<(), Fail> {
     for (count, length, expected) in COUNTS {
-        let mut ran = list_of(rt.alloc(), length)?;
+        let mut ran = vec![in rt.alloc(); 7; length]?;
         assert_eq!(rt;
-            told(&[count], ran.as_mut_slice(), 0),
+            told(clean_build(&[count], ran.as_mut_slice(), 0)),
             expected,
             "{count} items"
         );

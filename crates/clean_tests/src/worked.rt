@@ -1,10 +1,10 @@
 // One desk of eight items, with three pairs of numbers in its first two items.
-use super::desk_row::{add_made, add_written, desk_of};
 use super::desks::expect;
 use clean::CleanAnswer;
 use std::alloc::{AllocError, Global};
 use std::process::Abort;
 use std::test::Fail;
+use test_rows::Desk;
 
 const SUM_OF_0_AND_1: [[u64; 4]; 4] = [[0, 0, 0, 0], [0, 1, 1, 0], [3, 2, 0, 1], [5, 2, 0, 0]];
 
@@ -20,31 +20,26 @@ const EIGHT_OR_4: [[u64; 4]; 5] = [
 // The item whose number item 1 holds.
 const AT_1: [[u64; 4]; 3] = [[0, 0, 1, 0], [1, 0, 0, 0], [5, 0, 0, 0]];
 
-fn add_asking(row: &mut Vec<u64>, item: u64) -> Result<(), AllocError> {
-    add_made(row, &[[0, 0, item, 0], [5, 0, 0, 0]])
-}
-
-fn desk(heap: Global, first: u64, second: u64) -> Result<Vec<u64>, AllocError> {
-    let mut row = desk_of(heap, 8)?;
-    add_written(&mut row, first)?;
-    add_written(&mut row, second)?;
-    add_made(&mut row, &SUM_OF_0_AND_1)?;
-    add_made(&mut row, &EIGHT_OR_4)?;
-    add_asking(&mut row, 3)?;
-    add_made(&mut row, &AT_1)?;
-    add_asking(&mut row, 900)?;
-    add_asking(&mut row, 7)?;
-    Ok(row)
+fn desk(heap: Global, first: u64, second: u64) -> Result<Desk, AllocError> {
+    let mut desk = Desk::new(heap, 8)?;
+    desk.write(0, first);
+    desk.write(1, second);
+    desk.give(2, &SUM_OF_0_AND_1);
+    desk.give(3, &EIGHT_OR_4);
+    desk.give(4, &[[0, 0, 3, 0], [5, 0, 0, 0]]);
+    desk.give(5, &AT_1);
+    desk.give(6, &[[0, 0, 900, 0], [5, 0, 0, 0]]);
+    desk.give(7, &[[0, 0, 7, 0], [5, 0, 0, 0]]);
+    Ok(desk)
 }
 
 // An item, what its build answers, and what it lists.
 type Expected = (u64, CleanAnswer, &'static [u64]);
 
-fn expect_all(rt: &impl Abort, items: &[u64], builds: &[Expected]) -> Result<(), Fail> {
+fn expect_all(rt: &impl Abort, desk: &Desk, builds: &[Expected]) {
     for (item, answer, list) in builds {
-        expect(rt, items, *item, *answer, *list)?;
+        expect(rt, desk, *item, *answer, *list);
     }
-    Ok(())
 }
 
 // Items that are not there count as written with 0.
@@ -65,8 +60,9 @@ const AT_FIRST: [Expected; 12] = [
 
 #[test]
 fn with_5_and_3(rt: HostRuntime) -> Result<(), Fail> {
-    let items = desk(rt.alloc(), 5, 3)?;
-    expect_all(&rt, items.as_slice(), &AT_FIRST)
+    let desk = desk(rt.alloc(), 5, 3)?;
+    expect_all(&rt, &desk, &AT_FIRST);
+    Ok(())
 }
 
 const SAME_SUM: [Expected; 3] = [
@@ -77,8 +73,9 @@ const SAME_SUM: [Expected; 3] = [
 
 #[test]
 fn with_4_and_4(rt: HostRuntime) -> Result<(), Fail> {
-    let items = desk(rt.alloc(), 4, 4)?;
-    expect_all(&rt, items.as_slice(), &SAME_SUM)
+    let desk = desk(rt.alloc(), 4, 4)?;
+    expect_all(&rt, &desk, &SAME_SUM);
+    Ok(())
 }
 
 // Items 3 and 4 now ask for each other.
@@ -92,6 +89,7 @@ const WITH_A_RING: [Expected; 5] = [
 
 #[test]
 fn with_1_and_4(rt: HostRuntime) -> Result<(), Fail> {
-    let items = desk(rt.alloc(), 1, 4)?;
-    expect_all(&rt, items.as_slice(), &WITH_A_RING)
+    let desk = desk(rt.alloc(), 1, 4)?;
+    expect_all(&rt, &desk, &WITH_A_RING);
+    Ok(())
 }

@@ -1,6 +1,6 @@
 // What is told of whole commands, as they stand in a file. The house has 2 desks of 3 items.
 use super::files::told;
-use super::pieces::{FINE, add_lines, joined};
+use super::pieces::{FINE, add_lines};
 use std::alloc::{AllocError, Global};
 use std::test::Fail;
 
@@ -28,7 +28,9 @@ const PLACES: [(u8, u8, Option<(u64, u64)>); 8] = [
 #[test]
 fn places_of_a_write(rt: HostRuntime) -> Result<(), Fail> {
     for (desk, item, expected) in PLACES {
-        let file = joined(rt.alloc(), &[&HEAD, &[0, desk, item], &[255; 8]])?;
+        let mut file = Vec::from_slice(rt.alloc(), &HEAD)?;
+        file.extend_from_slice(&[0, desk, item])?;
+        file.extend_from_slice(&[255; 8])?;
         assert_eq!(rt;
             told(&rt, rt.alloc(), file.as_slice())?,
             expected,
@@ -116,10 +118,9 @@ fn entry_file(
     file.push(4)?;
     add_lines(&mut file, lines, first)?;
     file.push(askings)?;
-    for _ in 0..askings {
-        file.extend_from_slice(&[0; 12])?;
-    }
-    file.extend_from_slice(&[0; 8])?;
+    // Each asking is of 12 bytes, and the result of 8.
+    let length = file.len().saturating_add(12 * usize::from(askings) + 8);
+    file.resize(length, 0)?;
     Ok(file)
 }
 

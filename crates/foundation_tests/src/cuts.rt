@@ -1,7 +1,7 @@
 // A file that is cut anywhere is read up to its last whole command.
-use super::pieces::joined;
 use dayfile::{DayError, read_day};
 use std::test::Fail;
+use test_rows::numbers_of;
 
 // A house and a command of each kind.
 const FILE: [&[u8]; 13] = [
@@ -31,43 +31,36 @@ const STARTS: [usize; 6] = [3, 14, 44, 47, 49, 85];
 
 // How many commands are whole in so many bytes, and where the last of them ends.
 fn whole(length: usize) -> (usize, usize) {
-    let mut found = (0, 3);
-    for (count, start) in STARTS.iter().enumerate() {
-        if *start <= length {
-            found = (count, *start);
-        }
-    }
-    found
+    let starts = STARTS.iter().enumerate();
+    let last = starts.filter(|(_, start)| **start <= length).last();
+    last.map_or((0, 3), |(count, start)| (count, *start))
 }
 
 #[test]
 fn cut_in_the_head(rt: HostRuntime) -> Result<(), Fail> {
-    let file = joined(rt.alloc(), &FILE)?;
+    let file = FILE.concat(rt.alloc())?;
     let bytes = file.as_slice();
     assert!(rt; bytes.len() == 85);
     for length in 0..3 {
-        let refused = match read_day(rt.alloc(), &bytes[..length]) {
-            Ok(_) => false,
-            Err(error) => matches!(error, DayError::HouseRefused),
-        };
-        assert!(rt; refused, "{length} bytes");
+        let day = read_day(rt.alloc(), &bytes[..length]);
+        assert!(rt;
+            matches!(day, Err(DayError::HouseRefused)),
+            "{length} bytes"
+        );
     }
     Ok(())
 }
 
 #[test]
 fn cut_behind_the_head(rt: HostRuntime) -> Result<(), Fail> {
-    let file = joined(rt.alloc(), &FILE)?;
+    let file = FILE.concat(rt.alloc())?;
     let bytes = file.as_slice();
     assert!(rt; bytes.len() == 85);
     for length in 3..86 {
         let (count, end) = whole(length);
         let day = read_day(rt.alloc(), &bytes[..length])?;
         assert_eq!(rt; day.commands.len(), count, "{length} bytes");
-        let stopped = match day.stopped {
-            None => None,
-            Some(refusal) => Some((refusal.number(), refusal.place())),
-        };
+        let stopped = day.stopped.map(numbers_of);
         let expected = if length == end {
             None
         } else {

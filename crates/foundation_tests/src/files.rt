@@ -9,8 +9,5 @@ pub fn told(rt: &impl Abort, heap: Global, bytes: &[u8]) -> Result<Option<(u64, 
     let day = read_day(heap, bytes)?;
     assert!(rt; day.stopped.is_none());
     assert!(rt; day.commands.len() == 1);
-    match day.commands[0].check(day.size) {
-        Ok(()) => Ok(None),
-        Err(refusal) => Ok(Some((refusal.number(), refusal.place()))),
-    }
+    Ok(test_rows::told(day.commands[0].check(day.size)))
 }

@@ -1,6 +1,7 @@
 // Which lines are let in, and what is told of the others.
 use script::SourceLine;
 use script_checks::check_script;
+use test_rows::told;
 
 const MOST: u64 = u64::MAX;
 
@@ -9,14 +10,6 @@ const FINE: [u64; 4] = [5, 0, 0, 0];
 
 fn source([kind, first, second, third]: [u64; 4]) -> SourceLine {
     SourceLine::from_numbers(kind, first, second, third)
-}
-
-// The number and the place of what is told of these lines; None if they are let in.
-fn told(lines: &[SourceLine]) -> Option<(u64, u64)> {
-    match check_script(lines) {
-        Ok(()) => None,
-        Err(refusal) => Some((refusal.number(), refusal.place())),
-    }
 }
 
 // Lines that are let in; what a kind does not use may be anything.
@@ -35,7 +28,11 @@ const LET_IN: [[u64; 4]; 9] = [
 #[test]
 fn lines_that_are_let_in(rt: HostRuntime) {
     for (index, numbers) in LET_IN.iter().enumerate() {
-        assert_eq!(rt; told(&[source(*numbers)]), None, "line {index}");
+        assert_eq!(rt;
+            told(check_script(&[source(*numbers)])),
+            None,
+            "line {index}"
+        );
     }
 }
 
@@ -70,11 +67,15 @@ fn lines_that_are_refused(rt: HostRuntime) {
     for (index, (numbers, number)) in REFUSED.iter().enumerate() {
         let mut lines = [source(FINE); 32];
         lines[0] = source(*numbers);
-        assert_eq!(rt; told(&lines), Some((*number, 0)), "line {index} in front");
+        assert_eq!(rt;
+            told(check_script(&lines)),
+            Some((*number, 0)),
+            "line {index} in front"
+        );
         lines[0] = source(FINE);
         lines[31] = source(*numbers);
         assert_eq!(rt;
-            told(&lines),
+            told(check_script(&lines)),
             Some((*number, 31)),
             "line {index} at the end"
         );
@@ -93,7 +94,7 @@ const PAIRS: [([u64; 4], [u64; 4], Option<(u64, u64)>); 4] = [
 fn line_by_line(rt: HostRuntime) {
     for (index, (first, second, expected)) in PAIRS.iter().enumerate() {
         assert_eq!(rt;
-            told(&[source(*first), source(*second)]),
+            told(check_script(&[source(*first), source(*second)])),
             *expected,
             "pair {index}"
         );
@@ -102,15 +103,21 @@ fn line_by_line(rt: HostRuntime) {
 
 #[test]
 fn up_to_32_lines(rt: HostRuntime) {
-    assert_eq!(rt; told(&[]), None);
-    assert_eq!(rt; told(&[source(FINE); 32]), None);
-    assert_eq!(rt; told(&[source(FINE); 33]), Some((4, 32)));
-    assert_eq!(rt; told(&[source(FINE); 255]), Some((4, 32)));
+    assert_eq!(rt; told(check_script(&[])), None);
+    assert_eq!(rt; told(check_script(&[source(FINE); 32])), None);
+    assert_eq!(rt; told(check_script(&[source(FINE); 33])), Some((4, 32)));
+    assert_eq!(rt; told(check_script(&[source(FINE); 255])), Some((4, 32)));
 }
 
 // Too many lines are told before any line.
 #[test]
 fn too_many_lines_come_first(rt: HostRuntime) {
-    assert_eq!(rt; told(&[source([6, 8, 0, 0]); 32]), Some((5, 0)));
-    assert_eq!(rt; told(&[source([6, 8, 0, 0]); 33]), Some((4, 32)));
+    assert_eq!(rt;
+        told(check_script(&[source([6, 8, 0, 0]); 32])),
+        Some((5, 0))
+    );
+    assert_eq!(rt;
+        told(check_script(&[source([6, 8, 0, 0]); 33])),
+        Some((4, 32))
+    );
 }

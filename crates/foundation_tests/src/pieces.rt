@@ -1,19 +1,10 @@
 // Bytes of files that a test puts together.
 ghost use Rattle.std.specs.Prelude.{◌≡◌, ◌+◌, ◌*◌, length, OnOk};
 
-use std::alloc::{AllocError, Global};
+use std::alloc::AllocError;
 
 // A line that is let in: it gives register 0.
 pub const FINE: [u8; 13] = [5, 0, 0, 0, 0, 0, 0, 0, 0, 0, 0, 0, 0];
-
-// The bytes of these pieces, one behind the other.
-pub fn joined(heap: Global, pieces: &[&[u8]]) -> Result<Vec<u8>, AllocError> {
-    let mut file = Vec::new(heap);
-    for piece in pieces {
-        file.extend_from_slice(*piece)?;
-    }
-    Ok(file)
-}
 
 // Adds a count of lines and so many lines: this one in front, and then lines that are let in.
 pub fn add_lines(file: &mut Vec<u8>, count: u8, first: [u8; 13]) -> Result<(), AllocError>

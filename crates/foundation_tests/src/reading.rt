@@ -1,9 +1,10 @@
 // What the commands of a file say, byte by byte.
-use super::pieces::joined;
 use dayfile::read_day;
+use entry::Asking;
 use house::Command;
 use script::SourceLine;
 use std::test::Fail;
+use test_rows::numbers_of;
 
 #[test]
 fn a_write_is_read_low_byte_first(rt: HostRuntime) -> Result<(), Fail> {
@@ -82,9 +83,17 @@ const ENTRY: [&[u8]; 5] = [
     &[9, 0, 0, 0, 0, 0, 0, 1],
 ];
 
+const ASKINGS: [Asking; 2] = [
+    Asking {
+        item: 0x04030201,
+        answer: 0x8000000000000001,
+    },
+    Asking { item: 5, answer: 6 },
+];
+
 #[test]
 fn an_entry(rt: HostRuntime) -> Result<(), Fail> {
-    let file = joined(rt.alloc(), &ENTRY)?;
+    let file = ENTRY.concat(rt.alloc())?;
     let day = read_day(rt.alloc(), file.as_slice())?;
     assert!(rt; day.commands.len() == 1);
     let Command::Import {
@@ -96,12 +105,7 @@ fn an_entry(rt: HostRuntime) -> Result<(), Fail> {
         return Err(Fail::new("no entry"));
     };
     assert_eq!(rt; lines.len(), 0);
-    assert!(rt; askings.len() == 2);
-    assert_eq!(rt;
-        (askings[0].item, askings[0].answer),
-        (0x04030201, 0x8000000000000001)
-    );
-    assert_eq!(rt; (askings[1].item, askings[1].answer), (5, 6));
+    assert_eq!(rt; askings.as_slice(), ASKINGS.as_slice());
     assert_eq!(rt; *result, 0x0100000000000009);
     Ok(())
 }
@@ -114,10 +118,7 @@ fn an_unknown_kind_ends_the_reading(rt: HostRuntime) -> Result<(), Fail> {
     for kind in KINDS {
         let day = read_day(rt.alloc(), &[1, 1, 0, 2, 0, 0, kind, 0, 0, 2, 0, 0])?;
         assert_eq!(rt; day.commands.len(), 1);
-        let Some(refusal) = day.stopped else {
-            return Err(Fail::new("read to the end"));
-        };
-        assert_eq!(rt; (refusal.number(), refusal.place()), (1, 6), "kind {kind}");
+        assert_eq!(rt; day.stopped.map(numbers_of), Some((1, 6)), "kind {kind}");
     }
     Ok(())
 }

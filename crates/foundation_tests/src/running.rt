@@ -1,6 +1,8 @@
 // What scripts ask for and give. Lines stand as in a row: a kind and three numbers.
 use machine::Registers;
 use runner::{Step, run};
+use script::SCRIPT_SIZE;
+use test_rows::put_script;
 
 const MOST: u64 = u64::MAX;
 
@@ -11,40 +13,32 @@ enum Stop {
     Gives(u64),
 }
 
-fn stop_of(step: Step) -> Stop {
-    match step {
-        Step::Asks { item, .. } => Stop::Asks(item),
-        Step::Gives(value) => Stop::Gives(value),
+impl From<Step> for Stop {
+    fn from(step: Step) -> Stop {
+        match step {
+            Step::Asks { item, .. } => Stop::Asks(item),
+            Step::Gives(value) => Stop::Gives(value),
+        }
     }
 }
 
 // Where a script stops first.
 fn first_stop(script: &[u64]) -> Stop {
-    stop_of(run(script, Registers::new()))
+    run(script, Registers::new()).into()
 }
 
 // Where a script stops next, after an answer to what it asks for first.
 fn next_stop(script: &[u64], answer: u64) -> Stop {
     match run(script, Registers::new()) {
-        Step::Asks { waiting, .. } => stop_of(run(script, waiting.answer(answer))),
+        Step::Asks { waiting, .. } => run(script, waiting.answer(answer)).into(),
         Step::Gives(value) => Stop::Gives(value),
     }
 }
 
 // The row of a script: the count of its lines and the lines, of which there are at most 32.
-fn row_of(lines: &[[u64; 4]]) -> [u64; 129] {
-    let mut row = [0; 129];
-    row[0] = lines.len() as u64;
-    let mut at = 1;
-    for [kind, first, second, third] in lines {
-        if at <= 125 {
-            row[at] = *kind;
-            row[at + 1] = *first;
-            row[at + 2] = *second;
-            row[at + 3] = *third;
-            at += 4;
-        }
-    }
+fn row_of(lines: &[[u64; 4]]) -> [u64; SCRIPT_SIZE] {
+    let mut row = [0; SCRIPT_SIZE];
+    put_script(&mut row, 0, lines);
     row
 }
 

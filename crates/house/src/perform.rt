@@ -12,7 +12,7 @@ use script::Refusal;
 use store::remove_entry;
 
 // What is told of a command.
-#[derive(Clone, Copy)]
+#[derive(Clone, Copy, PartialEq, Debug)]
 pub enum Told {
     Done,
     Refused(Refusal),

@@ -10,10 +10,3 @@ told_as_numbers Done = (0, 0, 0)
 told_as_numbers (Value v) = (1, v, 0)
 told_as_numbers Ring = (2, 0, 0)
 told_as_numbers (Refused f) = (3, number_of f, place_of f)
-
--- both are 0 if nothing is refused
-abbrev pub told_as_refusal : Told → ℕ × ℕ
-told_as_refusal Done = (0, 0)
-told_as_refusal (Value v) = (0, 0)
-told_as_refusal Ring = (0, 0)
-told_as_refusal (Refused f) = (number_of f, place_of f)

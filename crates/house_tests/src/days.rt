@@ -1,6 +1,6 @@
 // Days of commands in a new house, and what is told, listed and kept.
 use super::draft::Draft;
-use super::lent_house::{House, told_numbers};
+use super::lent_house::TestedHouse;
 use house::{HouseSize, Told};
 use rows::{number_after, tail};
 use std::alloc::Global;
@@ -17,44 +17,33 @@ pub enum Step {
 }
 
 pub fn check_day(rt: &impl Abort, heap: Global, size: HouseSize, day: &[Step]) -> Result<(), Fail> {
-    let mut house = House::new(heap, size)?;
-    check_steps(rt, heap, &mut house, day)
+    TestedHouse::new(heap, size)?.spend(rt, day)
 }
 
-pub fn check_steps(
-    rt: &impl Abort,
-    heap: Global,
-    house: &mut House,
-    day: &[Step],
-) -> Result<(), Fail> {
-    for step in day {
-        check_step(rt, heap, house, *step)?;
+impl TestedHouse {
+    pub fn spend(&mut self, rt: &impl Abort, day: &[Step]) -> Result<(), Fail> {
+        for step in day {
+            self.check_step(rt, *step)?;
+        }
+        Ok(())
     }
-    Ok(())
-}
 
-fn check_step(rt: &impl Abort, heap: Global, house: &mut House, step: Step) -> Result<(), Fail> {
-    match step {
-        Step::Do(draft, told) => check_told(rt, heap, house, draft, told),
-        Step::Build(desk, item, told, ran, kept) => {
-            check_told(rt, heap, house, Draft::Build(desk, item), told)?;
-            check_list(rt, house.ran.as_slice(), ran);
-            assert_eq!(rt; entry_count(house.rows.as_slice()), kept);
-            Ok(())
+    fn check_step(&mut self, rt: &impl Abort, step: Step) -> Result<(), Fail> {
+        match step {
+            Step::Do(draft, told) => self.check_told(rt, draft, told),
+            Step::Build(desk, item, told, ran, kept) => {
+                self.check_told(rt, Draft::Build(desk, item), told)?;
+                check_list(rt, self.house.ran.as_slice(), ran);
+                assert_eq!(rt; entry_count(self.house.rows.as_slice()), kept);
+                Ok(())
+            }
         }
     }
-}
 
-fn check_told(
-    rt: &impl Abort,
-    heap: Global,
-    house: &mut House,
-    draft: Draft,
-    told: Told,
-) -> Result<(), Fail> {
-    let answer = house.perform_draft(heap, draft)?;
-    assert_eq!(rt; told_numbers(answer), told_numbers(told));
-    Ok(())
+    fn check_told(&mut self, rt: &impl Abort, draft: Draft, told: Told) -> Result<(), Fail> {
+        assert_eq!(rt; self.perform(draft)?, told);
+        Ok(())
+    }
 }
 
 // The row begins with the length of the list and the list.

@@ -43,20 +43,20 @@ impl Draft {
 }
 
 fn lines_of(heap: Global, numbers: &[[u64; 4]]) -> Result<Vec<SourceLine>, AllocError> {
-    let mut lines = Vec::new(heap);
-    for [kind, first, second, third] in numbers {
-        lines.push(SourceLine::from_numbers(*kind, *first, *second, *third))?;
-    }
-    Ok(lines)
+    numbers
+        .iter()
+        .map(|[kind, first, second, third]| {
+            SourceLine::from_numbers(*kind, *first, *second, *third)
+        })
+        .collect(heap)
 }
 
 fn askings_of(heap: Global, numbers: &[[u64; 2]]) -> Result<Vec<Asking>, AllocError> {
-    let mut askings = Vec::new(heap);
-    for [item, answer] in numbers {
-        askings.push(Asking {
+    numbers
+        .iter()
+        .map(|[item, answer]| Asking {
             item: *item,
             answer: *answer,
-        })?;
-    }
-    Ok(askings)
+        })
+        .collect(heap)
 }

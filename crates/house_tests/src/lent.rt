@@ -1,6 +1,6 @@
 // A house that is in use, whose rows are lent in good order or not, and commands that are refused there.
 use super::draft::Draft;
-use super::lent_house::{House, refusal_numbers};
+use super::lent_house::{TestedHouse, same_rows, told_numbers};
 use super::scripts::TWICE;
 use house::HouseSize;
 use rows::put_all;
@@ -29,52 +29,26 @@ pub const WHOLE: Lent = Lent {
     list: 4,
 };
 
-pub const FULL: Lent = Lent {
-    count: 2,
-    store: 392,
-    list: 4,
-};
+pub const FULL: Lent = Lent { count: 2, ..WHOLE };
 
 pub const SHORT: Lent = Lent {
-    count: 1,
     store: 391,
-    list: 4,
+    ..WHOLE
 };
 
-pub const FULL_SHORT: Lent = Lent {
-    count: 2,
-    store: 391,
-    list: 4,
-};
+pub const FULL_SHORT: Lent = Lent { count: 2, ..SHORT };
 
-pub const OVERFULL: Lent = Lent {
-    count: 3,
-    store: 392,
-    list: 4,
-};
+pub const OVERFULL: Lent = Lent { count: 3, ..WHOLE };
 
-pub const OVERFULL_SHORT: Lent = Lent {
-    count: 3,
-    store: 391,
-    list: 4,
-};
+pub const OVERFULL_SHORT: Lent = Lent { count: 3, ..SHORT };
 
-pub const LISTLESS: Lent = Lent {
-    count: 1,
-    store: 392,
-    list: 3,
-};
+pub const LISTLESS: Lent = Lent { list: 3, ..WHOLE };
 
-pub const NO_LIST: Lent = Lent {
-    count: 1,
-    store: 392,
-    list: 0,
-};
+pub const NO_LIST: Lent = Lent { list: 0, ..WHOLE };
 
 pub const OVERFULL_LISTLESS: Lent = Lent {
     count: 3,
-    store: 392,
-    list: 3,
+    ..LISTLESS
 };
 
 // All of it is wrong.
@@ -98,22 +72,19 @@ static USE: [Draft; 3] = [
     Draft::Build(0, 1),
 ];
 
-fn use_house(heap: Global, house: &mut House) -> Result<(), AllocError> {
+// The house after these commands, whose rows are then lent as told.
+fn lent_house(heap: Global, lent: Lent) -> Result<TestedHouse, AllocError> {
+    let mut tested = TestedHouse::new(heap, SIZE)?;
     for draft in USE.iter() {
-        let _ = house.perform_draft(heap, *draft)?;
+        let _ = tested.perform(*draft)?;
     }
-    Ok(())
+    put_all(tested.house.rows.as_mut_slice(), 0, &[lent.count]);
+    tested.house.rows.truncate(lent.store);
+    tested.house.ran.truncate(lent.list);
+    Ok(tested)
 }
 
-fn lent_house(heap: Global, lent: Lent) -> Result<House, AllocError> {
-    let mut house = House::new(heap, SIZE)?;
-    use_house(heap, &mut house)?;
-    put_all(house.rows.as_mut_slice(), 0, &[lent.count]);
-    house.rows.truncate(lent.store);
-    house.ran.truncate(lent.list);
-    Ok(house)
-}
-
+// The command is refused with this number at this place, and every number of the three rows is as it was.
 pub fn check_refused(
     rt: &impl Abort,
     heap: Global,
@@ -121,22 +92,11 @@ pub fn check_refused(
     draft: Draft,
     refusal: (u64, u64),
 ) -> Result<(), Fail> {
-    let mut house = lent_house(heap, lent)?;
+    let mut tested = lent_house(heap, lent)?;
     let before = lent_house(heap, lent)?;
-    check_unmoved(rt, heap, &mut house, &before, draft, refusal)
-}
-
-// The command is refused with this number at this place, and every number of the three rows is as it was.
-fn check_unmoved(
-    rt: &impl Abort,
-    heap: Global,
-    house: &mut House,
-    before: &House,
-    draft: Draft,
-    refusal: (u64, u64),
-) -> Result<(), Fail> {
-    let told = house.perform_draft(heap, draft)?;
-    assert_eq!(rt; refusal_numbers(told), refusal);
-    assert!(rt; house.same_rows(before));
+    let told = tested.perform(draft)?;
+    let (number, place) = refusal;
+    assert_eq!(rt; told_numbers(told), (3, number, place));
+    assert!(rt; same_rows(&tested.house, &before.house));
     Ok(())
 }

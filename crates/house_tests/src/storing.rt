@@ -1,8 +1,8 @@
 // Imports and removals, and what the store's row holds after them, number for number.
-use super::days::{Step, check_steps};
+use super::days::Step;
 use super::draft::Draft;
-use super::lent_house::House;
-use house::{HouseSize, Told};
+use super::lent_house::TestedHouse;
+use house::{House, HouseSize, Told};
 use rows::put_all;
 use script::Refusal;
 use std::process::Abort;
@@ -43,19 +43,17 @@ static FILLING: [Step; 7] = [
 // The entry of 9 goes, and that of 7 moves up.
 static REMOVING: [Step; 1] = [Step::Do(Draft::Remove(0), Told::Done)];
 
-// The numbers of an entry of this answer, from its first place on.
-fn put_entry(row: &mut [u64], at: usize, answer: u64) {
-    put_all(row, at, &[2, 0, 0, 3, 0, 5]);
-    put_all(row, at.saturating_add(129), &[1, 3, answer]);
-    put_all(row, at.saturating_add(194), &[answer]);
+// The numbers of an entry of this answer.
+fn put_entry(row: &mut [u64], answer: u64) {
+    put_all(row, 0, &[2, 0, 0, 3, 0, 5]);
+    put_all(row, 129, &[1, 3, answer]);
+    put_all(row, 194, &[answer]);
 }
 
-fn put_entries(row: &mut [u64], answers: &[u64]) {
+fn put_entries(row: &mut [u64; 392], answers: &[u64]) {
     put_all(row, 0, &[answers.len() as u64, 2]);
-    let mut at: usize = 2;
-    for answer in answers {
-        put_entry(row, at, *answer);
-        at = at.saturating_add(195);
+    for (entry, answer) in row[2..].chunks_exact_mut(195).zip(answers) {
+        put_entry(entry, *answer);
     }
 }
 
@@ -68,10 +66,10 @@ fn check_stored(rt: &impl Abort, house: &House, answers: &[u64]) {
 
 #[test]
 fn imports_and_removals(rt: HostRuntime) -> Result<(), Fail> {
-    let mut house = House::new(rt.alloc(), SIZE)?;
-    check_steps(&rt, rt.alloc(), &mut house, &FILLING)?;
-    check_stored(&rt, &house, &[9, 7]);
-    check_steps(&rt, rt.alloc(), &mut house, &REMOVING)?;
-    check_stored(&rt, &house, &[7]);
+    let mut tested = TestedHouse::new(rt.alloc(), SIZE)?;
+    tested.spend(&rt, &FILLING)?;
+    check_stored(&rt, &tested.house, &[9, 7]);
+    tested.spend(&rt, &REMOVING)?;
+    check_stored(&rt, &tested.house, &[7]);
     Ok(())
 }

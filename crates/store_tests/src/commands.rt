@@ -6,6 +6,7 @@ use script::{Line, SourceLine};
 use std::alloc::{AllocError, Global};
 use std::test::Fail;
 use store::{empty_store, entry_count, entry_of};
+use test_rows::numbers_of;
 
 const SIZE: HouseSize = HouseSize {
     desks: 1,
@@ -33,13 +34,9 @@ fn import(
     answer: u64,
     given: u64,
 ) -> Result<Command, AllocError> {
-    let mut askings = Vec::new(heap);
-    for _ in 0..count {
-        askings.push(Asking { item: 3, answer })?;
-    }
     Ok(Command::Import {
         lines: Vec::from_slice(heap, lines)?,
-        askings,
+        askings: vec![in heap; Asking { item: 3, answer }; count]?,
         result: given,
     })
 }
@@ -53,7 +50,7 @@ fn performed(command: &Command, rows: &mut [u64]) -> Option<(u64, u64)> {
     let mut desks = [0; 131];
     let mut ran = [0; 2];
     match command.perform(SIZE, &mut desks, rows, &mut ran) {
-        Told::Refused(refusal) => Some((refusal.number(), refusal.place())),
+        Told::Refused(refusal) => Some(numbers_of(refusal)),
         _ => None,
     }
 }

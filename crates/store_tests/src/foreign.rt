@@ -1,11 +1,12 @@
 // Rows from elsewhere, in which numbers that are not used may be anything.
-use super::examples::{ECHO, echo, entry_row, same_entry, told};
+use super::examples::{ECHO, echo, entry_row, same_entry};
 use entry::{Asking, write_entry, write_from_parts};
 use rows::tail;
 use script::{Line, SourceLine};
 use script_rows::same_script;
 use std::test::Fail;
 use store::{add_entry, empty_store, entry_of, import_entry};
+use test_rows::told;
 
 // The lines of two scripts, and whether they are the same as they are read.
 const SCRIPTS: [(&[[u64; 4]], &[[u64; 4]], bool); 13] = [

@@ -1,10 +1,11 @@
 // What each place of a store holds while it is filled and emptied.
-use super::examples::{echo, same_entry, told};
+use super::examples::{echo, same_entry};
 use rows::number_after;
 use std::alloc::{AllocError, Global};
 use std::process::Abort;
 use std::test::Fail;
 use store::{check_store, empty_store, entry_count, entry_of, import_entry, remove_entry};
+use test_rows::told;
 
 // The store holds so many entries, and these are its places: an answer for each entry, and 0 for a place that is free.
 fn check_places(rt: &impl Abort, rows: &[u64], room: u64, count: u64, answers: &[u64]) {

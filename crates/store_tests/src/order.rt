@@ -1,9 +1,10 @@
 // Which refusal is told first, where several apply.
-use super::examples::{ECHO, echo, entry_row, told};
+use super::examples::{ECHO, echo, entry_row};
 use rows::put_all;
 use std::alloc::{AllocError, Global};
 use std::test::Fail;
 use store::{empty_store, import_entry, remove_entry};
+use test_rows::told;
 
 // A store with room for two entries that says that it keeps so many, and whose row ends one number early.
 fn short_store(heap: Global, count: u64) -> Result<Vec<u64>, AllocError> {

@@ -16,13 +16,6 @@ const CHOICE: [[u64; 4]; 5] = [
 // Asks for item 1, then for the item of that number, and gives that.
 const AT: [[u64; 4]; 3] = [[0, 0, 1, 0], [1, 1, 0, 0], [5, 1, 0, 0]];
 
-fn difference(entry: &[u64]) -> Option<u64> {
-    match replay(entry) {
-        Ok(()) => None,
-        Err(asking) => Some(asking),
-    }
-}
-
 // Lines, askings with their answers, the result, and where the entry first differs.
 const ENTRIES: [(&[[u64; 4]], &[[u64; 2]], u64, Option<u64>); 26] = [
     // No lines: asks for nothing and gives 0.
@@ -64,7 +57,7 @@ const ENTRIES: [(&[[u64; 4]], &[[u64; 2]], u64, Option<u64>); 26] = [
 fn entries(rt: HostRuntime) {
     for (index, (lines, askings, result, expected)) in ENTRIES.iter().enumerate() {
         let entry = entry_row(*lines, *askings, *result);
-        assert_eq!(rt; difference(&entry), *expected, "entry {index}");
+        assert_eq!(rt; replay(&entry).err(), *expected, "entry {index}");
     }
 }
 
@@ -73,11 +66,14 @@ fn entries(rt: HostRuntime) {
 fn an_entry_with_32_askings(rt: HostRuntime) {
     let lines = [[0, 0, 7, 0]; 32];
     let mut askings = [[7, 1]; 32];
-    assert_eq!(rt; difference(&entry_row(&lines, &askings, 0)), None);
-    assert_eq!(rt; difference(&entry_row(&lines, &askings, 1)), Some(32));
-    assert_eq!(rt; difference(&entry_row(&lines, &askings[..31], 0)), Some(31));
+    assert_eq!(rt; replay(&entry_row(&lines, &askings, 0)).err(), None);
+    assert_eq!(rt; replay(&entry_row(&lines, &askings, 1)).err(), Some(32));
+    assert_eq!(rt;
+        replay(&entry_row(&lines, &askings[..31], 0)).err(),
+        Some(31)
+    );
     askings[31] = [8, 1];
-    assert_eq!(rt; difference(&entry_row(&lines, &askings, 0)), Some(31));
+    assert_eq!(rt; replay(&entry_row(&lines, &askings, 0)).err(), Some(31));
 }
 
 // The same up to its last line, which gives the answer.
@@ -86,17 +82,20 @@ fn an_entry_with_31_askings(rt: HostRuntime) {
     let mut lines = [[0, 0, 7, 0]; 32];
     lines[31] = [5, 0, 0, 0];
     let askings = [[7, 1]; 32];
-    assert_eq!(rt; difference(&entry_row(&lines, &askings[..31], 1)), None);
-    assert_eq!(rt; difference(&entry_row(&lines, &askings, 1)), Some(31));
-    assert_eq!(rt; difference(&entry_row(&lines, &askings[..30], 1)), Some(30));
+    assert_eq!(rt; replay(&entry_row(&lines, &askings[..31], 1)).err(), None);
+    assert_eq!(rt; replay(&entry_row(&lines, &askings, 1)).err(), Some(31));
+    assert_eq!(rt;
+        replay(&entry_row(&lines, &askings[..30], 1)).err(),
+        Some(30)
+    );
 }
 
 // An entry of which the row has only a part: what is not there counts as 0.
 #[test]
 fn entries_in_short_rows(rt: HostRuntime) {
-    assert_eq!(rt; difference(&[]), None);
+    assert_eq!(rt; replay(&[]).err(), None);
     // One line, which is read as asking for item 0.
-    assert_eq!(rt; difference(&[1]), Some(0));
+    assert_eq!(rt; replay(&[1]).err(), Some(0));
     // Register 0 becomes 9 and is given; the result is read as 0.
-    assert_eq!(rt; difference(&[2, 2, 0, 9, 0, 5]), Some(0));
+    assert_eq!(rt; replay(&[2, 2, 0, 9, 0, 5]).err(), Some(0));
 }

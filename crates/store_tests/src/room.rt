@@ -1,9 +1,10 @@
 // Stores with no room and with the most, and rows that do not fit their room.
-use super::examples::{echo, entry_row, same_entry, told};
+use super::examples::{echo, entry_row, same_entry};
 use rows::{number_after, put_all};
 use std::alloc::{AllocError, Global};
 use std::test::Fail;
 use store::{check_store, empty_store, entry_count, entry_of, import_entry, remove_entry};
+use test_rows::told;
 
 #[test]
 fn no_room(rt: HostRuntime) -> Result<(), Fail> {
@@ -53,10 +54,7 @@ fn the_most_room(rt: HostRuntime) -> Result<(), Fail> {
 
 // A row of so many numbers whose first two say how many entries are kept and how many there is room for.
 fn row_of(heap: Global, length: usize, count: u64, room: u64) -> Result<Vec<u64>, AllocError> {
-    let mut rows = Vec::new(heap);
-    for _ in 0..length {
-        rows.push(0)?;
-    }
+    let mut rows = vec![in heap; 0; length]?;
     put_all(rows.as_mut_slice(), 0, &[count, room]);
     Ok(rows)
 }
