@@ -8,6 +8,7 @@ const MOST: u64 = u64::MAX;
 // A line that is let in.
 const FINE: [u64; 4] = [5, 0, 0, 0];
 
+// No impl of From: it would stand in the crate of scripts, for tests alone.
 fn source([kind, first, second, third]: [u64; 4]) -> SourceLine {
     SourceLine::from_numbers(kind, first, second, third)
 }

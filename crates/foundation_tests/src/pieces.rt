@@ -11,6 +11,7 @@ pub fn add_lines(file: &mut Vec<u8>, count: u8, first: [u8; 13]) -> Result<(), A
     ensures { OnOk result (length file.new.items ≡ length file.old.items + 1 + 13 * count) }
 {
     file.push(count)?;
+    // The index only tells the first line from the others.
     for index in 0..count {
         let line = if index == 0 { first } else { FINE };
         file.extend_from_slice(&line)?;
