@@ -5,6 +5,5 @@ pub mod Running
 pub mod Already
 pub mod Opening
 pub mod Closing
-pub mod Bounds
 pub mod Complete
 pub mod Whole

@@ -13,13 +13,13 @@ pub mark_else : (ms : List Mark) (k j : ℕ) (m : Mark) → (j ≡ k → ⊥) �
 mark_else ms k j m other = get_or-set_other ms k j m Unseen other
 
 pub open_known : {m : Mark} {v : Value} → m ≡ Open → m ≡ Known v → ⊥
-open_known p q = let z : ◌≡◌ {A = ℕ} 0 1 = cc in omega arith
+open_known p q = cc
 
 pub unseen_known : {m : Mark} {v : Value} → m ≡ Unseen → m ≡ Known v → ⊥
-unseen_known p q = let z : ◌≡◌ {A = ℕ} 0 1 = cc in omega arith
+unseen_known p q = cc
 
 pub unseen_open : {m : Mark} → m ≡ Unseen → m ≡ Open → ⊥
-unseen_open p q = let z : ◌≡◌ {A = ℕ} 0 1 = cc in omega arith
+unseen_open p q = cc
 
 pub known_one : {m : Mark} {v w : Value} → m ≡ Known v → m ≡ Known w → v ≡ w
 known_one p q = cc

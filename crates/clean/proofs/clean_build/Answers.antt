@@ -1,8 +1,7 @@
-use Rattle.std.proofs.Common.{length, ap, ◌∙◌, arith}
+use Rattle.std.proofs.Common.{◌≤◌, length, ap, ◌∙◌, arith}
 use Rattle.items.specs.Listing.{listed}
 use Rattle.items.specs.Rows.{items_in}
 use Rattle.clean.specs.Builds.{known_items}
-use Rattle.clean.proofs.Bounds.{items_few}
 use Rattle.clean.proofs.Marks.{none_seen}
 use Rattle.clean.proofs.Whole.{fresh_sound, whole_answer, whole_built}
 use Rattle.clean.proofs.clean_build.Goals as goal
@@ -10,8 +9,9 @@ use Rattle.clean.proofs.clean_build.Goals as goal
 pub evaluate-answer-requires : goal.evaluate-answer-requires
 evaluate-answer-requires c =
     let d = items_in c.args.items.now in
+    let few : length d ≤ 256 = omega (arith, c.item_count-count.ensures.value, c.item_count-count.ensures.bound) in
     rw (c.new-evaluation.ensures.same, c.new-evaluation.ensures.fresh)
-    (record { sound = fresh_sound d 256 (items_few c.args.items.now); deep = omega (arith, none_seen (length d) 256, c.item_count-count.ensures.value) })
+    (record { sound = fresh_sound d 256 few; deep = omega (arith, none_seen (length d) 256, c.item_count-count.ensures.value) })
 
 pub returns-clause-answer : goal.returns-clause-answer
 returns-clause-answer c =
