@@ -22,4 +22,4 @@ Reading bs cs e = Reads bs head_bytes (map deed_of cs) e
 abbrev pub DayRead : List ℕ → Result Day DayError → Type 0
 DayRead bs (Ok d) = (head_in bs ≡ Some d.size) × Reading bs (vec_items d.commands) d.stopped
 DayRead bs (Err HouseRefused) = head_in bs ≡ None
-DayRead bs (Err OutOfMemory) = head_in bs ≡ None → ⊥
+DayRead bs (Err (OutOfMemory _)) = head_in bs ≡ None → ⊥

@@ -1,2 +1,3 @@
 pub mod Format
 pub mod Day
+pub mod Kind

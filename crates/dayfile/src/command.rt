@@ -3,38 +3,47 @@ ghost use Rattle.std.specs.Prelude.{◌≡◌, ◌<◌, ◌≤◌, true, length,
 ghost use Rattle.dayfile.specs.Format.{carries_lines, deed_in, import_in, size_in, whole_size};
 ghost use Rattle.house.specs.Deeds.{deed_of};
 
-use super::pieces::{ASKING_BYTES, LINE_BYTES, read_pieces};
+use super::kind::Kind;
+use super::pieces::{Piece, read_pieces};
 use byte_reading::{byte_at, read_u64};
+use entry::Asking;
 use house::Command;
 use rows::tail;
+use script::SourceLine;
 use std::alloc::{AllocError, Global};
 
-const WRITE: u8 = 0;
+const KIND_BYTES: usize = 1;
 
-const SCRIPT: u8 = 1;
+// A desk and an item.
+const PLACE_BYTES: usize = 2;
 
-const BUILD: u8 = 2;
+const ENTRY_BYTES: usize = 1;
 
-const REMOVE: u8 = 3;
+// How many lines or askings there are.
+const COUNT_BYTES: usize = 1;
 
-const IMPORT: u8 = 4;
+const VALUE_BYTES: usize = 8;
 
 // How many bytes the command takes, from its kind and the counts in it; None if no command has its kind.
 fn size_of_command(bytes: &[u8]) -> Option<usize>
     ensures { result ≡ size_in bytes.now }
 {
-    match byte_at(bytes, 0) {
-        WRITE => Some(11),
-        SCRIPT => Some(4 + LINE_BYTES * usize::from(byte_at(bytes, 3))),
-        BUILD => Some(3),
-        REMOVE => Some(2),
-        IMPORT => {
-            let lines = LINE_BYTES * usize::from(byte_at(bytes, 1));
-            let askings = ASKING_BYTES * usize::from(byte_at(tail(bytes, 2 + lines), 0));
-            Some(11 + lines + askings)
+    let kind = Kind::try_from(byte_at(bytes, 0)).ok()?;
+    let carried = match kind {
+        Kind::Write => PLACE_BYTES + VALUE_BYTES,
+        Kind::Script => {
+            let lines = usize::from(byte_at(bytes, KIND_BYTES + PLACE_BYTES));
+            PLACE_BYTES + COUNT_BYTES + SourceLine::SIZE * lines
         }
-        _ => None,
-    }
+        Kind::Build => PLACE_BYTES,
+        Kind::Remove => ENTRY_BYTES,
+        Kind::Import => {
+            let lines = COUNT_BYTES + SourceLine::SIZE * usize::from(byte_at(bytes, KIND_BYTES));
+            let askings = usize::from(byte_at(tail(bytes, KIND_BYTES + lines), 0));
+            lines + COUNT_BYTES + Asking::SIZE * askings + VALUE_BYTES
+        }
+    };
+    Some(KIND_BYTES + carried)
 }
 
 // How many bytes the command takes, if its kind is known and all of it is there.
@@ -42,12 +51,7 @@ pub fn whole_command(bytes: &[u8]) -> Option<usize>
     ensures value { result ≡ whole_size bytes.now }
     ensures bound { IfSome result (λ size. (0 < size) × (size ≤ length bytes.now)) }
 {
-    let size = size_of_command(bytes)?;
-    if size <= bytes.len() {
-        Some(size)
-    } else {
-        None
-    }
+    size_of_command(bytes).filter(|size| *size <= bytes.len())
 }
 
 // The command, of which missing bytes read as 0; a kind above 4 reads as 4. Only what carries lines can want for memory.
@@ -56,31 +60,34 @@ pub fn read_command(heap: Global, bytes: &[u8]) -> Result<Command, AllocError>
 {
     let desk = u64::from(byte_at(bytes, 1));
     let item = u64::from(byte_at(bytes, 2));
-    match byte_at(bytes, 0) {
-        WRITE => Ok(Command::Write {
+    let rest = tail(bytes, KIND_BYTES + PLACE_BYTES);
+    match Kind::try_from(byte_at(bytes, 0)) {
+        Ok(Kind::Write) => Ok(Command::Write {
             desk,
             item,
-            value: read_u64(tail(bytes, 3)),
+            value: read_u64(rest),
         }),
-        SCRIPT => {
-            let lines = read_pieces(heap, tail(bytes, 4), byte_at(bytes, 3))?;
+        Ok(Kind::Script) => {
+            let lines = read_pieces(heap, tail(rest, COUNT_BYTES), byte_at(rest, 0))?;
             Ok(Command::Script { desk, item, lines })
         }
-        BUILD => Ok(Command::Build { desk, item }),
-        REMOVE => Ok(Command::Remove { entry: desk }),
-        _ => read_import(heap, bytes),
+        Ok(Kind::Build) => Ok(Command::Build { desk, item }),
+        Ok(Kind::Remove) => Ok(Command::Remove { entry: desk }),
+        Ok(Kind::Import) | Err(_) => read_import(heap, bytes),
     }
 }
 
 fn read_import(heap: Global, bytes: &[u8]) -> Result<Command, AllocError>
     ensures { IfOk result (λ command. deed_of command ≡ import_in bytes.now) }
 {
-    let line_count = byte_at(bytes, 1);
-    let lines = read_pieces(heap, tail(bytes, 2), line_count)?;
-    let rest = tail(bytes, 2 + LINE_BYTES * usize::from(line_count));
+    let line_count = byte_at(bytes, KIND_BYTES);
+    let lines = read_pieces(heap, tail(bytes, KIND_BYTES + COUNT_BYTES), line_count)?;
+    let line_bytes = SourceLine::SIZE * usize::from(line_count);
+    let rest = tail(bytes, KIND_BYTES + COUNT_BYTES + line_bytes);
     let asking_count = byte_at(rest, 0);
-    let askings = read_pieces(heap, tail(rest, 1), asking_count)?;
-    let result = read_u64(tail(rest, 1 + ASKING_BYTES * usize::from(asking_count)));
+    let askings = read_pieces(heap, tail(rest, COUNT_BYTES), asking_count)?;
+    let asking_bytes = Asking::SIZE * usize::from(asking_count);
+    let result = read_u64(tail(rest, COUNT_BYTES + asking_bytes));
     Ok(Command::Import {
         lines,
         askings,

@@ -22,23 +22,21 @@ pub struct Day {
 pub enum DayError {
     // The head is missing or out of bounds.
     HouseRefused,
-    OutOfMemory,
+    OutOfMemory(AllocError),
 }
 
 impl From<AllocError> for DayError {
-    ghost from_gives = { λ _ r. r ≡ OutOfMemory };
+    ghost from_gives = { λ error r. r ≡ OutOfMemory error };
 
-    fn from(_error: AllocError) -> DayError {
-        DayError::OutOfMemory
+    fn from(error: AllocError) -> DayError {
+        DayError::OutOfMemory(error)
     }
 }
 
 pub fn read_day(heap: Global, bytes: &[u8]) -> Result<Day, DayError>
     ensures { DayRead bytes.now result }
 {
-    let Some(size) = read_head(bytes) else {
-        return Err(DayError::HouseRefused);
-    };
+    let size = read_head(bytes).ok_or(DayError::HouseRefused)?;
     let (commands, stopped) = read_commands(heap, bytes)?;
     Ok(Day {
         size,
@@ -52,14 +50,14 @@ fn read_commands(heap: Global, bytes: &[u8]) -> Result<(Vec<Command>, Option<Ref
     ensures { IfOk result (λ read. Reading bytes.now read.0.items read.1) }
 {
     let mut commands = Vec::new(heap);
-    let mut at = HEAD_BYTES;
-    while at < bytes.len() {
-        let rest = tail(bytes, at);
+    let mut rest = tail(bytes, HEAD_BYTES);
+    while !rest.is_empty() {
         let Some(size) = whole_command(rest) else {
-            return Ok((commands, Some(Refusal::Unreadable { at: at as u64 })));
+            let at = (bytes.len() - rest.len()) as u64;
+            return Ok((commands, Some(Refusal::Unreadable { at })));
         };
         commands.push(read_command(heap, rest)?)?;
-        at += size;
+        rest = tail(rest, size);
     }
     Ok((commands, None))
 }

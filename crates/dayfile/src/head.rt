@@ -16,16 +16,15 @@ const MAX_ROOM: u8 = 16;
 pub fn read_head(bytes: &[u8]) -> Option<HouseSize>
     ensures { result ≡ head_in bytes.now }
 {
-    if bytes.len() < HEAD_BYTES {
+    let [desks, items, room, ..] = bytes else {
         return None;
-    }
-    let (desks, items, room) = (bytes[0], bytes[1], bytes[2]);
-    if desks < 1 || desks > MAX_DESKS || items < 1 || items > MAX_ITEMS || room > MAX_ROOM {
-        return None;
-    }
-    Some(HouseSize {
-        desks: u64::from(desks),
-        items: u64::from(items),
-        room: u64::from(room),
+    };
+    let served = (1..=MAX_DESKS).contains(desks)
+        && (1..=MAX_ITEMS).contains(items)
+        && (0..=MAX_ROOM).contains(room);
+    served.then_some(HouseSize {
+        desks: u64::from(*desks),
+        items: u64::from(*items),
+        room: u64::from(*room),
     })
 }

@@ -4,6 +4,7 @@
 mod command;
 mod day;
 mod head;
+mod kind;
 mod pieces;
 
 pub use day::{Day, DayError, read_day};

@@ -1,27 +1,22 @@
 // Reads pieces of one length that stand one behind the other: the lines and the askings of a command.
-ghost use Rattle.std.specs.Prelude.{◌≡◌, ℕ, ◌≤◌, List, IfOk};
+ghost use Rattle.std.specs.Prelude.{◌≡◌, ℕ, List, IfOk};
 ghost use Rattle.dayfile.specs.Format.{asking_bytes, asking_in_bytes, line_bytes, line_in_bytes};
 ghost use Rattle.rows.specs.Rows.{chunks};
 
 use byte_reading::{byte_at, read_u32, read_u64};
 use entry::Asking;
-use rows::tail;
+use rows::{parts, tail};
 use script::SourceLine;
 use std::alloc::{AllocError, Global};
-
-pub const LINE_BYTES: usize = 13;
-
-pub const ASKING_BYTES: usize = 12;
 
 // What can be read from the first of its bytes on.
 pub trait Piece: Sized {
     ghost reads: { List ℕ → Self };
 
-    ghost size: { ℕ };
+    ghost SIZE: { ℕ };
 
     // How many bytes it takes.
-    fn size() -> usize
-        ensures { (result ≡ size) × (result ≤ 255) };
+    const SIZE: usize;
 
     fn read(bytes: &[u8]) -> Self
         ensures { result ≡ reads bytes.now };
@@ -30,11 +25,9 @@ pub trait Piece: Sized {
 impl Piece for SourceLine {
     ghost reads = { line_in_bytes };
 
-    ghost size = { line_bytes };
+    ghost SIZE = { line_bytes };
 
-    fn size() -> usize {
-        LINE_BYTES
-    }
+    const SIZE: usize = 13;
 
     fn read(bytes: &[u8]) -> SourceLine {
         let first = read_u32(tail(bytes, 1));
@@ -47,11 +40,9 @@ impl Piece for SourceLine {
 impl Piece for Asking {
     ghost reads = { asking_in_bytes };
 
-    ghost size = { asking_bytes };
+    ghost SIZE = { asking_bytes };
 
-    fn size() -> usize {
-        ASKING_BYTES
-    }
+    const SIZE: usize = 12;
 
     fn read(bytes: &[u8]) -> Asking {
         Asking {
@@ -66,11 +57,9 @@ pub fn read_pieces<T: Piece + Drop>(
     bytes: &[u8],
     count: u8,
 ) -> Result<Vec<T>, AllocError>
-    ensures { IfOk result (λ pieces. pieces.items ≡ chunks T.Piece.reads T.Piece.size count bytes.now) }
+    ensures { IfOk result (λ pieces. pieces.items ≡ chunks T.Piece.reads T.Piece.SIZE count bytes.now) }
 {
-    let mut pieces = Vec::new(heap);
-    for index in 0..usize::from(count) {
-        pieces.push(T::read(tail(bytes, T::size() * index)))?;
-    }
-    Ok(pieces)
+    parts(bytes, T::SIZE, usize::from(count))
+        .map(|piece| T::read(piece))
+        .collect(heap)
 }

@@ -1,9 +1,9 @@
-use Rattle.std.proofs.Common.{◌-◌, length, vec_items}
+use Rattle.std.proofs.Common.{length, vec_items}
 use Rattle.dayfile.proofs.Sofar.{Sofar}
 use Rattle.dayfile.proofs.day.read_commands.Given as goal
 
-abbrev pub invariant-loop-at : goal.invariant-loop-at
-invariant-loop-at l = Sofar l.bytes (vec_items l.commands) l.at
+abbrev pub invariant-loop-rest : goal.invariant-loop-rest
+invariant-loop-rest l = Sofar l.bytes (vec_items l.commands) l.rest
 
-abbrev pub decreases-loop-at : goal.decreases-loop-at
-decreases-loop-at l = length l.bytes - l.at
+abbrev pub decreases-loop-rest : goal.decreases-loop-rest
+decreases-loop-rest l = length l.rest
