@@ -31,7 +31,7 @@ fn bounds_of_a_house(rt: HostRuntime) -> Result<(), Fail> {
                 true
             }
             Err(DayError::HouseRefused) => false,
-            Err(DayError::OutOfMemory) => return Err(Fail::new("out of memory")),
+            Err(DayError::OutOfMemory(_)) => return Err(Fail::new("out of memory")),
         };
         assert_eq!(rt; seen, *let_in, "head {index}");
     }

@@ -1,7 +1,7 @@
 // The lines that are printed of a command.
 ghost use Rattle.days.specs.Outcomes.{told_as};
 ghost use Rattle.house.specs.Deeds.{deed_of};
-ghost use Rattle.report.specs.Text.{item_text, line_end, numbered_text, opening_text, prints, refusal_text, told_text};
+ghost use Rattle.report.specs.Text.{item_text, line_end, opening_text, prints, refusal_text, told_text};
 ghost use Rattle.std.specs.List.{flat_map};
 ghost use Rattle.std.specs.Prelude.{◌≡◌, true, ◌++◌, IfOk, string_bytes, MatchResult};
 ghost use Rattle.theory.specs.Clean.{ring, value};
@@ -14,12 +14,8 @@ use std::alloc::{AllocError, Global};
 pub fn refusal_line(heap: Global, deed: usize, refusal: Refusal) -> Result<String, AllocError>
     ensures { IfOk result (λ line. string_bytes line ≡ refusal_text deed refusal) }
 {
-    numbered_line(heap, deed, refusal.number(), refusal.place())
-}
-
-fn numbered_line(heap: Global, deed: usize, number: u64, place: u64) -> Result<String, AllocError>
-    ensures { IfOk result (λ line. string_bytes line ≡ numbered_text deed number place) }
-{
+    let number = refusal.number();
+    let place = refusal.place();
     format!(in heap; "deed {deed} refused {number} at {place}\n")
 }
 
@@ -41,18 +37,11 @@ fn ring_opening(heap: Global, desk: u64, item: u64) -> Result<String, AllocError
 fn with_list(heap: Global, mut line: String, ran: &[u64]) -> Result<String, AllocError>
     ensures { IfOk result (λ whole. string_bytes whole ≡ string_bytes line ++ (flat_map item_text ran.now ++ line_end)) }
 {
-    for item in ran.iter() {
-        let text = item_text(heap, *item)?;
-        line.push_str(text.as_str())?;
+    for item in ran {
+        write!(line, " {item}")?;
     }
     line.push_str("\n")?;
     Ok(line)
-}
-
-fn item_text(heap: Global, item: u64) -> Result<String, AllocError>
-    ensures { IfOk result (λ text. string_bytes text ≡ item_text item) }
-{
-    format!(in heap; " {item}")
 }
 
 // What is printed of the command with number `deed` in the file; where that is nothing, no memory is wanted.

@@ -17,7 +17,7 @@ pub fn day_text(heap: Global, bytes: &[u8]) -> Result<String, AllocError>
     match read_day(heap, bytes) {
         Ok(day) => performed_text(heap, &day),
         Err(DayError::HouseRefused) => String::from_str(heap, "house refused\n"),
-        Err(DayError::OutOfMemory) => Err(AllocError),
+        Err(DayError::OutOfMemory(error)) => Err(error),
     }
 }
 

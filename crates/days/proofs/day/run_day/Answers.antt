@@ -7,8 +7,8 @@ pub returns : goal.returns
 returns c =
     whole_if c.args.size (map deed_of c.args.commands.now) c.perform_all.result _ _ _ _ _ _
     (record {
-      desks_new = c.as_mut_slice.ensures.value ∙ c.in_ok-desks.ensures;
-      store_new = c.as_mut_slice-2.ensures.value ∙ c.in_ok-rows.ensures;
-      list_new = c.as_mut_slice-3.ensures.value ∙ c.in_ok-ran.ensures;
+      desks_new = c.as_mut_slice.ensures.value ∙ c.in_ok-house.ensures.at_desks;
+      store_new = c.as_mut_slice-2.ensures.value ∙ c.in_ok-house.ensures.at_store;
+      list_new = c.as_mut_slice-3.ensures.value ∙ c.in_ok-house.ensures.at_list;
     })
     c.perform_all.ensures
