@@ -4,7 +4,7 @@ ghost use Rattle.capi.specs.Pieces.{lines_from};
 ghost use Rattle.house.specs.Deeds.{build, give, write};
 ghost use Rattle.std.specs.Prelude.{◌≡◌};
 
-use super::outcome::{Outcome, no_memory, outcome_of};
+use super::outcome::{Outcome, no_memory};
 use super::pieces::read_lines;
 use house::{Command, HouseSize};
 use std::alloc::Global;
@@ -18,13 +18,15 @@ pub struct Size {
     pub room: u64,
 }
 
-pub fn house_size(size: &Size) -> HouseSize
-    ensures { result ≡ size_of size.now }
-{
-    HouseSize {
-        desks: size.desks,
-        items: size.items,
-        room: size.room,
+impl From<&Size> for HouseSize {
+    ghost from_gives = { λ size house. house ≡ size_of size.now };
+
+    fn from(size: &Size) -> HouseSize {
+        HouseSize {
+            desks: size.desks,
+            items: size.items,
+            room: size.room,
+        }
     }
 }
 
@@ -41,7 +43,7 @@ pub extern "C" fn rupdaem_write(
     ensures { PerformedFor (size_of size.now) (write desk item value) desks.old rows.old ran.old result desks.new rows.new ran.new }
 {
     let command = Command::Write { desk, item, value };
-    outcome_of(command.perform(house_size(size), desks, rows, ran))
+    command.perform(size.into(), desks, rows, ran).into()
 }
 
 // The lines stand one behind the other, four numbers each.
@@ -62,7 +64,7 @@ pub extern "C" fn rupdaem_script(
         return no_memory();
     };
     let command = Command::Script { desk, item, lines };
-    outcome_of(command.perform(house_size(size), desks, rows, ran))
+    command.perform(size.into(), desks, rows, ran).into()
 }
 
 #[unsafe(no_mangle)]
@@ -77,5 +79,5 @@ pub extern "C" fn rupdaem_build(
     ensures { PerformedFor (size_of size.now) (build desk item) desks.old rows.old ran.old result desks.new rows.new ran.new }
 {
     let command = Command::Build { desk, item };
-    outcome_of(command.perform(house_size(size), desks, rows, ran))
+    command.perform(size.into(), desks, rows, ran).into()
 }

@@ -3,8 +3,8 @@ ghost use Rattle.capi.specs.Outcomes.{PerformedFor, PerformedOrShort, size_of};
 ghost use Rattle.capi.specs.Pieces.{askings_from, lines_from};
 ghost use Rattle.house.specs.Deeds.{bring, forget};
 
-use super::at_desk::{Size, house_size};
-use super::outcome::{Outcome, no_memory, outcome_of};
+use super::at_desk::Size;
+use super::outcome::{Outcome, no_memory};
 use super::pieces::{read_askings, read_lines};
 use house::Command;
 use std::alloc::Global;
@@ -20,7 +20,7 @@ pub extern "C" fn rupdaem_remove(
     ensures { PerformedFor (size_of size.now) (forget entry) desks.old rows.old ran.old result desks.new rows.new ran.new }
 {
     let command = Command::Remove { entry };
-    outcome_of(command.perform(house_size(size), desks, rows, ran))
+    command.perform(size.into(), desks, rows, ran).into()
 }
 
 // The lines stand one behind the other, four numbers each; so do the askings, an item and an answer each.
@@ -48,5 +48,5 @@ pub extern "C" fn rupdaem_import(
         askings,
         result: given,
     };
-    outcome_of(command.perform(house_size(size), desks, rows, ran))
+    command.perform(size.into(), desks, rows, ran).into()
 }

@@ -1,7 +1,7 @@
 // The build of one item over the row of its desk, the store and the list.
 ghost use Rattle.capi.specs.Outcomes.{BuiltFor};
 
-use super::outcome::{Outcome, outcome_by};
+use super::outcome::Outcome;
 use build::build_item;
 
 #[unsafe(no_mangle)]
@@ -13,5 +13,5 @@ pub extern "C" fn rupdaem_build_item(
 ) -> Outcome
     ensures { BuiltFor items.now rows.old ran.old item result rows.new ran.new }
 {
-    outcome_by(build_item(items, rows, ran, item))
+    build_item(items, rows, ran, item).into()
 }

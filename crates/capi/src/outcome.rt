@@ -4,7 +4,6 @@ ghost use Rattle.std.specs.Prelude.{◌≡◌};
 
 use build::Answer;
 use house::Told;
-use script::Refusal;
 
 const DONE: u64 = 0;
 
@@ -18,6 +17,7 @@ const NO_MEMORY: u64 = 4;
 
 // `told` is 0 for done, 1 for a value, 2 for ring, 3 for a refusal, 4 for want of memory;
 // `number` is the value or the refusal's number, `place` the refusal's place, and what is not used is 0.
+// Numbers stand here where an enum would, since other languages read these three.
 #[repr(C)]
 #[derive(Clone, Copy)]
 pub struct Outcome {
@@ -26,27 +26,40 @@ pub struct Outcome {
     pub place: u64,
 }
 
-pub fn outcome_of(told: Told) -> Outcome
-    ensures { result ≡ outcome_of told }
-{
-    match told {
-        Told::Done => bare(DONE),
-        Told::Value(value) => valued(value),
-        Told::Ring => bare(RING),
-        Told::Refused(refusal) => refused(refusal),
+impl From<Told> for Outcome {
+    ghost from_gives = { λ told outcome. outcome ≡ outcome_of told };
+
+    fn from(told: Told) -> Outcome {
+        match told {
+            Told::Done => bare(DONE),
+            Told::Value(value) => Outcome {
+                told: VALUE,
+                number: value,
+                place: 0,
+            },
+            Told::Ring => bare(RING),
+            Told::Refused(refusal) => Outcome {
+                told: REFUSED,
+                number: refusal.number(),
+                place: refusal.place(),
+            },
+        }
     }
 }
 
-pub fn outcome_by(answer: Answer) -> Outcome
-    ensures { result ≡ outcome_by answer }
-{
-    match answer {
-        Answer::Value(value) => valued(value),
-        Answer::Ring => bare(RING),
-        Answer::Refused(refusal) => refused(refusal),
+impl From<Answer> for Outcome {
+    ghost from_gives = { λ answer outcome. outcome ≡ outcome_by answer };
+
+    fn from(answer: Answer) -> Outcome {
+        match answer {
+            Answer::Value(value) => Told::Value(value).into(),
+            Answer::Ring => Told::Ring.into(),
+            Answer::Refused(refusal) => Told::Refused(refusal).into(),
+        }
     }
 }
 
+// What an export returns is no `Result`, so one that lacks memory leaves with this by `let .. else`.
 pub fn no_memory() -> Outcome
     ensures { result ≡ no_memory }
 {
@@ -60,25 +73,5 @@ fn bare(told: u64) -> Outcome
         told,
         number: 0,
         place: 0,
-    }
-}
-
-fn valued(value: u64) -> Outcome
-    ensures { result ≡ record { told = 1; number = value; place = 0 } }
-{
-    Outcome {
-        told: VALUE,
-        number: value,
-        place: 0,
-    }
-}
-
-fn refused(refusal: Refusal) -> Outcome
-    ensures { result ≡ outcome_of (Told.Refused refusal) }
-{
-    Outcome {
-        told: REFUSED,
-        number: refusal.number(),
-        place: refusal.place(),
     }
 }

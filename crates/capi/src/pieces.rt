@@ -2,29 +2,25 @@
 ghost use Rattle.capi.specs.Pieces.{askings_from, lines_from};
 ghost use Rattle.std.specs.Prelude.{◌≡◌, IfOk};
 
-use entry::Asking;
+use entry::{ASKING_SIZE, Asking};
 use script::{LINE_SIZE, SourceLine};
 use std::alloc::{AllocError, Global};
 
-// Numbers that an asking takes: its item and its answer.
-const ASKING_SIZE: usize = 2;
-
+// Two chains: one that takes the size and a closure for the piece would be no shorter where it is called.
 pub fn read_lines(heap: Global, numbers: &[u64]) -> Result<Vec<SourceLine>, AllocError>
     ensures { IfOk result (λ lines. lines.items ≡ lines_from numbers.now) }
 {
-    let mut lines = Vec::new(heap);
-    for index in 0..numbers.len() / LINE_SIZE {
-        lines.push(SourceLine::read(numbers, LINE_SIZE * index))?;
-    }
-    Ok(lines)
+    numbers
+        .chunks_exact(LINE_SIZE)
+        .map(|piece| SourceLine::read(piece, 0))
+        .collect(heap)
 }
 
 pub fn read_askings(heap: Global, numbers: &[u64]) -> Result<Vec<Asking>, AllocError>
     ensures { IfOk result (λ askings. askings.items ≡ askings_from numbers.now) }
 {
-    let mut askings = Vec::new(heap);
-    for index in 0..numbers.len() / ASKING_SIZE {
-        askings.push(Asking::read(numbers, ASKING_SIZE * index))?;
-    }
-    Ok(askings)
+    numbers
+        .chunks_exact(ASKING_SIZE)
+        .map(|piece| Asking::read(piece, 0))
+        .collect(heap)
 }

@@ -8,4 +8,4 @@ pub returns : goal.returns
 returns c =
     let deed = write c.args.desk c.args.item c.args.value in
     let so = λ (z : HouseSize). PerformedSo z deed c.args.desks.now c.args.rows.now c.args.ran.now c.perform.result c.perform.new.desks c.perform.new.rows c.perform.new.ran in
-    record { told = c.perform.result; tells = c.outcome_of.ensures; performed = subst so c.house_size.ensures c.perform.ensures }
+    record { told = c.perform.result; tells = c.into-2.ensures; performed = subst so c.into.ensures c.perform.ensures }

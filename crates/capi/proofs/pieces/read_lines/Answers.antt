@@ -1,12 +1,14 @@
-use Rattle.std.proofs.Common.{sym, ◌∙◌}
-use Rattle.rows.proofs.Chunks.{chunks_none, chunks_push}
+use Rattle.std.proofs.Common.{◌≡◌, ℕ, ◌<◌, List, get_or, take, rules, refl, arith, vec_items}
+use Rattle.std.proofs.lemmas.List.{get_or-take}
 use Rattle.script.specs.Allowed.{first_source}
 use Rattle.script.specs.Layout.{line_size}
+use Rattle.capi.proofs.Chains.{collected}
 use Rattle.capi.proofs.pieces.read_lines.Goals as goal
 
-pub loop-index-init : goal.loop-index-init
-loop-index-init c = c.new-lines.ensures.items ∙ sym (chunks_none first_source line_size c.args.numbers.now)
+first_local : (xs : List ℕ) → first_source xs ≡ first_source (take line_size xs)
+first_local xs =
+    let same : (j : ℕ) → j < line_size → get_or (take line_size xs) j 0 ≡ get_or xs j 0 = λ j h. get_or-take line_size xs j 0 h in
+    rw (same 0 (omega arith), same 1 (omega arith), same 2 (omega arith), same 3 (omega arith)) refl
 
-pub loop-index-preserved : goal.loop-index-preserved
-loop-index-preserved c =
-    chunks_push first_source line_size c.loop-index.index c.args.numbers.now c.loop-index.invariant c.read.ensures c.in_ok-push.ensures.items
+pub returns : goal.returns
+returns c = collected first_source line_size first_local vec_items c.collect.result c.args.numbers.now (search rules) (search rules)
