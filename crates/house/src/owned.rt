@@ -2,7 +2,7 @@
 ghost use Rattle.house.specs.Deeds.{deed_of};
 ghost use Rattle.house.specs.New.{NewHouse};
 ghost use Rattle.house.specs.Performed.{PerformedSo};
-ghost use Rattle.std.specs.Prelude.{◌≡◌, IfOk};
+ghost use Rattle.std.specs.Prelude.{◌≡◌, length, IfOk};
 
 use super::command::Command;
 use super::desks::new_desks;
@@ -36,6 +36,7 @@ impl House {
 
     pub fn perform(&mut self, command: &Command) -> Told
         ensures size { self.new.size ≡ self.old.size }
+        ensures lengths { (length self.new.desks.items ≡ length self.old.desks.items) × (length self.new.rows.items ≡ length self.old.rows.items) × (length self.new.ran.items ≡ length self.old.ran.items) }
         ensures performed { PerformedSo self.old.size (deed_of command.now) self.old.desks.items self.old.rows.items self.old.ran.items result self.new.desks.items self.new.rows.items self.new.ran.items }
     {
         command.perform(

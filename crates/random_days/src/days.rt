@@ -1,29 +1,91 @@
 // One day from its seed: a house is drawn, its items are filled one by one, and then commands come as they are drawn.
 use super::drafts::Draft;
 use super::drawing::{draw, draw_first};
+use super::fault::Fault;
 use super::judging::perform_judged;
-use super::place::Place;
 use super::pool::Pool;
 use super::seed::Seed;
-use super::tally::{Count, Tally};
+use super::tally::Tally;
 use super::view::View;
-use super::watched::Watched;
+use super::watched::{Watched, entries};
 use entry::ENTRY_SIZE;
-use house::HouseSize;
+use house::{HouseSize, Place};
 use std::alloc::{AllocError, Global};
-use store::{check_entry, entry_count, entry_of};
+use store::{check_entry, entry_count};
 
 // What is otherwise than the rules have it, and after which command of the day.
 #[derive(Clone, Copy)]
 pub struct Wrong {
     pub deed: u64,
-    pub what: &'static str,
+    pub fault: Fault,
 }
 
+// A day ends early where something is wrong.
 pub fn run_day(heap: Global, number: u64, tally: &mut Tally) -> Result<Option<Wrong>, AllocError> {
-    let seed = Seed::new(number);
-    let mut watched = Watched::new(heap, draw_size(seed.at(0)))?;
-    perform_all(heap, &mut watched, seed, tally)
+    let mut day = Day::new(heap, Seed::new(number))?;
+    let deeds = day.draw_count();
+    for deed in 0..deeds {
+        if let Err(fault) = day.perform(heap, deed, tally)? {
+            return Ok(Some(Wrong { deed, fault }));
+        }
+    }
+    let honest = judge_entries(day.watched.house.rows.as_slice(), tally);
+    Ok(honest.err().map(|fault| Wrong { deed: deeds, fault }))
+}
+
+#[derive(Drop)]
+struct Day {
+    seed: Seed,
+    pool: Pool,
+    watched: Watched,
+}
+
+impl Day {
+    fn new(heap: Global, seed: Seed) -> Result<Day, AllocError> {
+        Ok(Day {
+            seed,
+            pool: Pool {
+                seed: seed.at(1),
+                scripts: seed.at(2).between(1, 8),
+            },
+            watched: Watched::new(heap, draw_size(seed.at(0)))?,
+        })
+    }
+
+    // How many commands the day has, with those that fill the items.
+    fn draw_count(&self) -> u64 {
+        let HouseSize { desks, items, .. } = self.watched.house.size;
+        let more = self.seed.at(3).between(20, 80);
+        desks.saturating_mul(items).saturating_add(more)
+    }
+
+    fn perform(
+        &mut self,
+        heap: Global,
+        deed: u64,
+        tally: &mut Tally,
+    ) -> Result<Result<(), Fault>, AllocError> {
+        let mut row = [0; ENTRY_SIZE];
+        let draft = self.draw(deed, &mut row);
+        let command = draft.kind.command(heap, &row)?;
+        Ok(perform_judged(&mut self.watched, draft, &command, tally))
+    }
+
+    // The first commands fill the items of all desks.
+    fn draw(&self, deed: u64, row: &mut [u64]) -> Draft {
+        let house = &self.watched.house;
+        let view = View {
+            house,
+            pool: self.pool,
+        };
+        let desk = deed.checked_div(house.size.items).unwrap_or(0);
+        let item = deed.checked_rem(house.size.items).unwrap_or(0);
+        if desk < house.size.desks {
+            draw_first(view, Place { desk, item }, row)
+        } else {
+            draw(view, self.seed.at(4).at(deed), row)
+        }
+    }
 }
 
 // Most houses are small; some have no room, and some have more than their builds leave.
@@ -47,68 +109,15 @@ fn draw_size(seed: Seed) -> HouseSize {
     }
 }
 
-// A day ends early where something is wrong.
-fn perform_all(
-    heap: Global,
-    watched: &mut Watched,
-    seed: Seed,
-    tally: &mut Tally,
-) -> Result<Option<Wrong>, AllocError> {
-    let pool = Pool {
-        seed: seed.at(1),
-        scripts: seed.at(2).between(1, 8),
-    };
-    let filling = watched.size.desks.saturating_mul(watched.size.items);
-    let deeds = filling.saturating_add(seed.at(3).between(20, 80));
-    for deed in 0..deeds {
-        if let Some(what) = perform_next(heap, watched, pool, seed.at(4), deed, tally)? {
-            return Ok(Some(Wrong { deed, what }));
-        }
-    }
-    Ok(judge_entries(watched.store.as_slice(), deeds, tally))
-}
-
-fn perform_next(
-    heap: Global,
-    watched: &mut Watched,
-    pool: Pool,
-    seed: Seed,
-    deed: u64,
-    tally: &mut Tally,
-) -> Result<Option<&'static str>, AllocError> {
-    let mut row = [0; ENTRY_SIZE];
-    let view = View {
-        size: watched.size,
-        pool,
-        desks: watched.desks.as_slice(),
-        store: watched.store.as_slice(),
-    };
-    let draft = draw_deed(view, seed, deed, &mut row);
-    let command = draft.kind.command(heap, &row)?;
-    Ok(perform_judged(watched, draft, &command, tally))
-}
-
-// The first commands fill the items of all desks.
-fn draw_deed(view: View<'_>, seed: Seed, deed: u64, row: &mut [u64]) -> Draft {
-    let desk = deed.checked_div(view.size.items).unwrap_or(0);
-    let item = deed.checked_rem(view.size.items).unwrap_or(0);
-    if desk < view.size.desks {
-        draw_first(view, Place { desk, item }, row)
-    } else {
-        draw(view, seed.at(deed), row)
-    }
-}
-
 // At the end of a day every entry replays.
-fn judge_entries(store: &[u64], deed: u64, tally: &mut Tally) -> Option<Wrong> {
-    let mut wrong = None;
-    for index in 0..entry_count(store) {
-        let honest = check_entry(entry_of(store, index as usize)).is_ok();
-        tally.count(&[(Count::Entries, true), (Count::Honest, honest)]);
-        if !honest {
-            let what = "an entry that is not honest";
-            wrong = Some(Wrong { deed, what });
+fn judge_entries(store: &[u64], tally: &mut Tally) -> Result<(), Fault> {
+    let mut judged = Ok(());
+    for entry in entries(store, entry_count(store)).chunks_exact(ENTRY_SIZE) {
+        tally.entries.count();
+        match check_entry(entry) {
+            Ok(_) => tally.honest.count(),
+            Err(_) => judged = Err(Fault::NotHonest),
         }
     }
-    wrong
+    judged
 }

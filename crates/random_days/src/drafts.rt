@@ -1,9 +1,8 @@
 // A command as it is drawn, with its lines and askings still in a row, and the command that it makes.
 use super::expected::Expected;
-use super::place::Place;
-use entry::{Asking, RESULT_AT};
-use house::Command;
-use rows::{number_after, tail};
+use entry::{ASKING_SIZE, Asking, RESULT_AT};
+use house::{Command, Place};
+use rows::{number_after, parts, tail};
 use script::{LINE_SIZE, SCRIPT_SIZE, SourceLine};
 use std::alloc::{AllocError, Global};
 
@@ -47,7 +46,9 @@ impl Kind {
 
 fn import_command(heap: Global, row: &[u64]) -> Result<Command, AllocError> {
     let lines = read_lines(heap, row)?;
-    let askings = read_askings(heap, tail(row, SCRIPT_SIZE))?;
+    let askings = read_counted(heap, tail(row, SCRIPT_SIZE), ASKING_SIZE, |part| {
+        Asking::read(part, 0)
+    })?;
     let result = number_after(row, RESULT_AT, 0);
     Ok(Command::Import {
         lines,
@@ -56,23 +57,19 @@ fn import_command(heap: Global, row: &[u64]) -> Result<Command, AllocError> {
     })
 }
 
-// As many lines as the row says, also if these are too many.
 fn read_lines(heap: Global, script: &[u64]) -> Result<Vec<SourceLine>, AllocError> {
-    let count = number_after(script, 0, 0) as usize;
-    let mut lines = Vec::new(heap);
-    for index in 0..count {
-        let at = LINE_SIZE.saturating_mul(index).saturating_add(1);
-        lines.push(SourceLine::read(script, at))?;
-    }
-    Ok(lines)
+    read_counted(heap, script, LINE_SIZE, |part| SourceLine::read(part, 0))
 }
 
-fn read_askings(heap: Global, row: &[u64]) -> Result<Vec<Asking>, AllocError> {
+// As many parts as the row says, also if these are too many.
+fn read_counted<T: Drop, F: FnMut(&[u64]) -> T>(
+    heap: Global,
+    row: &[u64],
+    size: usize,
+    read: F,
+) -> Result<Vec<T>, AllocError>
+    requires { (f : _) (part : _) → F.pre f part }
+{
     let count = number_after(row, 0, 0) as usize;
-    let mut askings = Vec::new(heap);
-    for index in 0..count {
-        let at = index.saturating_mul(2).saturating_add(1);
-        askings.push(Asking::read(row, at))?;
-    }
-    Ok(askings)
+    parts(tail(row, 1), size, count).map(read).collect(heap)
 }

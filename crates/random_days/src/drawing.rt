@@ -2,11 +2,11 @@
 use super::drafts::{Draft, Kind};
 use super::entries::{read_back, record_run};
 use super::expected::Expected;
-use super::place::Place;
 use super::seed::Seed;
 use super::spoiling::{spoil_entry, spoil_script};
 use super::view::View;
-use house::HouseSize;
+use house::{HouseSize, Place};
+use script::Refusal;
 use store::entry_count;
 
 // The plans of the desks stand behind the scripts among the seeds of the pool.
@@ -14,11 +14,11 @@ const PLANS_AT: u64 = 1000;
 
 // The lines and askings of a script or an import go into the row.
 pub fn draw(view: View<'_>, seed: Seed, row: &mut [u64]) -> Draft {
-    let (place, expected) = draw_place(view.size, seed.at(0));
+    let (place, expected) = draw_place(view.house.size, seed.at(0));
     match seed.at(1).below(100) {
         0..=49 => Draft {
             kind: Kind::Build {
-                place: draw_later(view.size, seed.at(2), place),
+                place: draw_later(view.house.size, seed.at(2), place),
             },
             expected,
         },
@@ -67,21 +67,14 @@ fn draw_place(size: HouseSize, seed: Seed) -> (Place, Expected) {
     let item = seed.at(1).below(size.items);
     match seed.at(2).below(60) {
         0 => {
-            let place = size.desks.saturating_add(item);
-            (
-                Place {
-                    desk: place,
-                    item: place,
-                },
-                Expected::Refused { number: 2, place },
-            )
+            let desk = size.desks.saturating_add(item);
+            let refusal = Refusal::NoSuchDesk { desk };
+            (Place { desk, item: desk }, Expected::Refused(refusal))
         }
         1 => {
-            let place = size.items.saturating_add(desk);
-            (
-                Place { desk, item: place },
-                Expected::Refused { number: 3, place },
-            )
+            let item = size.items.saturating_add(desk);
+            let refusal = Refusal::NoSuchItem { item };
+            (Place { desk, item }, Expected::Refused(refusal))
         }
         _ => (Place { desk, item }, Expected::Performed),
     }
@@ -107,15 +100,12 @@ fn draw_script(view: View<'_>, seed: Seed, item: u64, row: &mut [u64]) -> Expect
 }
 
 fn draw_remove(view: View<'_>, seed: Seed) -> Draft {
-    let count = entry_count(view.store);
+    let count = entry_count(view.house.rows.as_slice());
     let entry = seed.between(0, count);
     let expected = if entry < count {
         Expected::Performed
     } else {
-        Expected::Refused {
-            number: 8,
-            place: entry,
-        }
+        Expected::Refused(Refusal::NoSuchEntry { entry })
     };
     Draft {
         kind: Kind::Remove { entry },
@@ -125,9 +115,9 @@ fn draw_remove(view: View<'_>, seed: Seed) -> Draft {
 
 // Half of the imports are honest; those are refused only if there is no room.
 fn draw_import(view: View<'_>, seed: Seed, row: &mut [u64]) -> Draft {
-    let count = entry_count(view.store);
+    let count = entry_count(view.house.rows.as_slice());
     if count > 0 && seed.at(0).percent(50) {
-        read_back(view.store, seed.at(1).below(count), row);
+        read_back(view.house.rows.as_slice(), seed.at(1).below(count), row);
     } else {
         record_run(view, seed.at(1), row);
     }
@@ -138,7 +128,7 @@ fn draw_import(view: View<'_>, seed: Seed, row: &mut [u64]) -> Draft {
     };
     Draft {
         kind: Kind::Import,
-        expected: spoiled.then(room_for(view.size.room, count)),
+        expected: spoiled.then(room_for(view.house.size.room, count)),
     }
 }
 
@@ -147,8 +137,5 @@ fn room_for(room: u64, count: u64) -> Expected {
     if count < room {
         return Expected::Performed;
     }
-    Expected::Refused {
-        number: 11,
-        place: room,
-    }
+    Expected::Refused(Refusal::StoreFull { room })
 }

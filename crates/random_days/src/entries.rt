@@ -1,8 +1,8 @@
 // Honest entries in a row: read back from the store, or recorded from a run of a script.
-use super::place::Place;
 use super::seed::Seed;
 use super::view::View;
-use entry::{Asking, ENTRY_SIZE, RESULT_AT};
+use entry::{ASKING_SIZE, Asking, ENTRY_SIZE, RESULT_AT};
+use house::Place;
 use machine::Registers;
 use rows::{front, put_all};
 use runner::{Step, run};
@@ -19,12 +19,13 @@ pub fn record_run(view: View<'_>, seed: Seed, row: &mut [u64]) {
         .write_script(seed.at(0).below(view.pool.scripts), row);
     let mut registers = Registers::new();
     for index in 0..MAX_ASKINGS {
-        if let Step::Asks { item, waiting } = run(row, registers) {
-            let answer = draw_answer(view, seed, index as u64, item);
-            put_all(row, SCRIPT_SIZE, &[index as u64 + 1]);
-            Asking { item, answer }.write(row, SCRIPT_SIZE + 1 + 2 * index);
-            registers = waiting.answer(answer);
-        }
+        let Step::Asks { item, waiting } = run(row, registers) else {
+            break;
+        };
+        let answer = draw_answer(view, seed, index as u64, item);
+        put_all(row, SCRIPT_SIZE, &[index as u64 + 1]);
+        Asking { item, answer }.write(row, SCRIPT_SIZE + 1 + ASKING_SIZE * index);
+        registers = waiting.answer(answer);
     }
     if let Step::Gives(result) = run(row, registers) {
         put_all(row, RESULT_AT, &[result]);
@@ -33,7 +34,7 @@ pub fn record_run(view: View<'_>, seed: Seed, row: &mut [u64]) {
 
 fn draw_answer(view: View<'_>, seed: Seed, asking: u64, item: u64) -> u64 {
     let drawn = view.draw_value(seed.at(1).at(asking));
-    let desk = seed.at(2).below(view.size.desks);
+    let desk = seed.at(2).below(view.house.size.desks);
     if seed.at(3).percent(40) {
         return drawn;
     }

@@ -3,12 +3,13 @@ ghost use Rattle.random_days.specs.Judged.{Meets, first_told};
 ghost use Rattle.std.specs.Prelude.{◌≡◌, Decides};
 
 use house::Told;
+use script::Refusal;
 
 #[derive(Clone, Copy)]
 pub enum Expected {
     // A build is answered, any other command is done.
     Performed,
-    Refused { number: u64, place: u64 },
+    Refused(Refusal),
     // An answer of an entry was changed: it may still replay.
     Open,
 }
@@ -29,10 +30,8 @@ impl Expected {
     {
         match (self, told) {
             (Expected::Open, _) => true,
-            (Expected::Refused { number, place }, Told::Refused(refusal)) => {
-                refusal.number() == number && refusal.place() == place
-            }
-            (Expected::Refused { .. }, _) => false,
+            (Expected::Refused(expected), Told::Refused(refusal)) => refusal == expected,
+            (Expected::Refused(_), _) => false,
             (Expected::Performed, Told::Refused(_)) => false,
             (Expected::Performed, _) => true,
         }

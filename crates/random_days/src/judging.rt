@@ -1,8 +1,12 @@
 // Performs a command, counts what came of it, and says what is otherwise than the rules have it.
+ghost use Rattle.random_days.specs.Judged.{AgreedBeside, Meets};
+ghost use Rattle.std.specs.Prelude.{◌≡◌, true, Ok, Err, OnOk, if◌then◌else◌};
+
 use super::beside::{Beside, build_clean, is_same};
 use super::drafts::{Draft, Kind};
-use super::tally::{Count, Tally};
-use super::watched::{Seen, Watched};
+use super::fault::Fault;
+use super::tally::Tally;
+use super::watched::Watched;
 use house::{Command, Told};
 
 // A build that kept all is made once more at once.
@@ -11,94 +15,101 @@ pub fn perform_judged(
     draft: Draft,
     command: &Command,
     tally: &mut Tally,
-) -> Option<&'static str> {
+) -> Result<(), Fault> {
     let told = watched.perform(command);
-    let seen = watched.look();
     let beside = match draft.kind {
-        Kind::Build { place } => build_clean(watched, place, told),
-        _ => Beside::no_build(),
+        Kind::Build { place } => Some(build_clean(&watched.house, place, told)),
+        _ => None,
     };
-    count_told(draft.kind, told, seen, beside, tally);
-    let wrong = judge(draft, told, seen, beside);
+    count_told(draft.kind, told, watched, beside, tally);
+    judge(draft, told, watched, beside)?;
     match told {
-        Told::Value(_) | Told::Ring if wrong.is_none() && seen.count == seen.due() => {
+        Told::Value(_) | Told::Ring if watched.count() == watched.due() => {
             build_again(watched, command, told, tally)
         }
-        _ => wrong,
+        _ => Ok(()),
     }
 }
 
-fn count_told(kind: Kind, told: Told, seen: Seen, beside: Beside, tally: &mut Tally) {
+fn count_told(
+    kind: Kind,
+    told: Told,
+    watched: &Watched,
+    beside: Option<Beside>,
+    tally: &mut Tally,
+) {
     let import = matches!(kind, Kind::Import);
+    tally.commands.count();
     match told {
         Told::Refused(refusal) => {
-            tally.count_refusal(refusal.number());
-            tally.count(&[
-                (Count::Commands, true),
-                (Count::Refused, true),
-                (Count::Unchanged, seen.same_all()),
-                (Count::Disbelieved, import),
-            ]);
+            tally.refusals.count(refusal);
+            tally.refused.count();
+            tally.unchanged.count_if(watched.same_all());
+            tally.disbelieved.count_if(import);
         }
-        Told::Done => tally.count(&[(Count::Commands, true), (Count::Believed, import)]),
-        _ => tally.count(&[
-            (Count::Commands, true),
-            (Count::Builds, true),
-            (Count::Agreed, beside.agrees),
-            (Count::Within, beside.within),
-            (Count::Values, !beside.rings),
-            (Count::Rings, beside.rings),
-            (Count::CacheHits, seen.listed == 0),
-        ]),
+        Told::Done => tally.believed.count_if(import),
+        Told::Value(_) | Told::Ring => {
+            let ring = matches!(told, Told::Ring);
+            tally.builds.count();
+            tally.rings.count_if(ring);
+            tally.values.count_if(!ring);
+            tally.cache_hits.count_if(watched.listed() == 0);
+            if let Some(Beside { agrees, within }) = beside {
+                tally.agreed.count_if(agrees);
+                tally.within.count_if(within);
+            }
+        }
     }
 }
 
-fn judge(draft: Draft, told: Told, seen: Seen, beside: Beside) -> Option<&'static str> {
-    if !draft.expected.meets(told) {
-        return Some("told otherwise than expected");
-    }
-    if !seen.in_room {
-        return Some("more entries than room");
-    }
-    match (told, draft.kind) {
-        (Told::Refused(_), _) => otherwise(seen.same_all(), "refused, and something changed"),
-        (Told::Done, kind) => otherwise(done_so(kind, seen), "done otherwise than it should be"),
-        (_, Kind::Build { .. }) => judge_built(seen, beside),
-        _ => Some("answered, and no build"),
+fn judge(draft: Draft, told: Told, watched: &Watched, beside: Option<Beside>) -> Result<(), Fault>
+    ensures met { OnOk result (Meets draft.expected told) }
+    ensures agreed { OnOk result (AgreedBeside told beside) }
+{
+    hold(draft.expected.meets(told), Fault::ToldOtherwise)?;
+    hold(watched.in_room(), Fault::MoreThanRoom)?;
+    match (told, beside) {
+        (Told::Refused(_), _) => hold(watched.same_all(), Fault::RefusedWithChange),
+        (Told::Done, _) => hold(done_so(draft.kind, watched), Fault::DoneOtherwise),
+        (_, Some(beside)) => judge_built(watched, beside),
+        (_, None) => Err(Fault::AnsweredWithoutBuild),
     }
 }
 
-fn otherwise(right: bool, wrong: &'static str) -> Option<&'static str> {
-    if right { None } else { Some(wrong) }
+fn hold(right: bool, fault: Fault) -> Result<(), Fault>
+    ensures { result ≡ (if right then Ok tt else Err fault) }
+{
+    if right { Ok(()) } else { Err(fault) }
 }
 
 // Whether a command that is done left alone what it has nothing to do with.
-fn done_so(kind: Kind, seen: Seen) -> bool {
+fn done_so(kind: Kind, watched: &Watched) -> bool {
     match kind {
-        Kind::Write { .. } | Kind::Script { .. } => seen.same_ran && seen.same_store,
+        Kind::Write { .. } | Kind::Script { .. } => watched.same_ran() && watched.same_store(),
         Kind::Remove { .. } => {
-            seen.same_ran && seen.same_desks && seen.count.saturating_add(1) == seen.old_count
+            watched.same_ran()
+                && watched.same_desks()
+                && watched.count().saturating_add(1) == watched.old_count()
         }
         Kind::Import => {
-            seen.same_ran
-                && seen.same_desks
-                && seen.same_entries
-                && seen.count == seen.old_count.saturating_add(1)
+            watched.same_ran()
+                && watched.same_desks()
+                && watched.same_entries()
+                && watched.count() == watched.old_count().saturating_add(1)
         }
         Kind::Build { .. } => false,
     }
 }
 
-fn judge_built(seen: Seen, beside: Beside) -> Option<&'static str> {
-    if !beside.agrees {
-        return Some("another answer than the clean build's");
-    }
-    if !beside.within {
-        return Some("ran what the clean build does not run");
-    }
-    otherwise(
-        seen.same_desks && seen.same_entries && seen.count == seen.due().min(seen.room),
-        "kept otherwise than it should be",
+fn judge_built(watched: &Watched, beside: Beside) -> Result<(), Fault>
+    ensures { OnOk result (beside.agrees ≡ true) }
+{
+    hold(beside.agrees, Fault::AnotherAnswer)?;
+    hold(beside.within, Fault::RanMore)?;
+    let kept = watched.count() == watched.due().min(watched.house.size.room);
+    hold(
+        watched.same_desks() && watched.same_entries() && kept,
+        Fault::KeptOtherwise,
     )
 }
 
@@ -108,10 +119,13 @@ fn build_again(
     command: &Command,
     told: Told,
     tally: &mut Tally,
-) -> Option<&'static str> {
+) -> Result<(), Fault> {
     let again = watched.perform(command);
-    let seen = watched.look();
-    let same = seen.same_desks && seen.same_store && seen.listed == 0 && is_same(told, again);
-    tally.count(&[(Count::Again, true), (Count::AgainHits, same)]);
-    otherwise(same, "built again at once, and something ran")
+    let same = watched.same_desks()
+        && watched.same_store()
+        && watched.listed() == 0
+        && is_same(told, again);
+    tally.again.count();
+    tally.again_hits.count_if(same);
+    hold(same, Fault::RanAgain)
 }

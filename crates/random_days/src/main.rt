@@ -2,14 +2,16 @@
 #![tactic(auto)]
 
 mod beside;
+mod counter;
 mod days;
 mod drafts;
 mod drawing;
 mod entries;
 mod expected;
+mod fault;
 mod judging;
-mod place;
 mod pool;
+mod refusals;
 mod seed;
 mod spoiling;
 mod tally;
@@ -20,7 +22,7 @@ use anyhow::anyhow;
 use days::{Wrong, run_day};
 use std::env;
 use std::process::ExitCode;
-use tally::{Count, Tally};
+use tally::Tally;
 
 fn main(rt: HostRuntime) -> ExitCode {
     match run(&rt) {
@@ -48,13 +50,12 @@ fn read_number(word: Option<String>) -> anyhow::Result<u64> {
 }
 
 fn run_days(rt: &HostRuntime, days: u64, first: u64) -> anyhow::Result<()> {
-    let mut tally = Tally::new();
+    let mut tally = Tally::default();
     for day in 0..days {
         report_day(rt, first.wrapping_add(day), &mut tally)?;
     }
-    print!(rt; "{days} days from seed {first}, ")?;
-    tally.print(rt)?;
-    if tally.of(Count::Wrong) > 0 {
+    print!(rt; "{days} days from seed {first}, {tally}")?;
+    if !tally.wrong.is_zero() {
         return Err(anyhow!("not all went as the rules have it"));
     }
     Ok(())
@@ -62,9 +63,9 @@ fn run_days(rt: &HostRuntime, days: u64, first: u64) -> anyhow::Result<()> {
 
 // A day that went as the rules have it prints nothing.
 fn report_day(rt: &HostRuntime, seed: u64, tally: &mut Tally) -> anyhow::Result<()> {
-    if let Some(Wrong { deed, what }) = run_day(rt.alloc(), seed, tally)? {
-        tally.count(&[(Count::Wrong, true)]);
-        println!(rt; "seed {seed} deed {deed}: {what}")?;
+    if let Some(Wrong { deed, fault }) = run_day(rt.alloc(), seed, tally)? {
+        tally.wrong.count();
+        println!(rt; "seed {seed} deed {deed}: {fault}")?;
     }
     Ok(())
 }

@@ -1,36 +1,43 @@
 // Makes scripts and entries in rows that the rules refuse, and says how.
 use super::expected::Expected;
 use super::seed::Seed;
-use entry::RESULT_AT;
+use entry::{ASKING_SIZE, RESULT_AT};
 use rows::{number_after, put_all};
-use script::{LINE_SIZE, SCRIPT_SIZE};
+use script::{LINE_SIZE, MAX_ASKINGS, Refusal, SCRIPT_SIZE};
 
 // One more than a script has of lines and an entry of askings.
 const TOO_MANY: u64 = 33;
 
-const LIMIT: u64 = 32;
+// Where an entry's askings begin, with their count.
+const ASKINGS_AT: usize = SCRIPT_SIZE;
 
+// Says that the script has too many lines, or puts a line into it that is not allowed.
 pub fn spoil_script(seed: Seed, row: &mut [u64]) -> Expected {
-    let number = seed.at(0).between(4, 7);
-    if number == 4 {
-        put_all(row, 0, &[TOO_MANY]);
-        return refused(number, LIMIT);
-    }
     let count = number_after(row, 0, 0);
     let line = seed.at(1).below(count);
+    let beyond = seed.at(2).below(100);
+    let (numbers, refusal) = match seed.at(0).below(4) {
+        0 => {
+            put_all(row, 0, &[TOO_MANY]);
+            return Expected::Refused(Refusal::TooManyLines);
+        }
+        1 => (
+            [beyond.saturating_add(6), 0, 0, 0],
+            Refusal::UnknownKind { line },
+        ),
+        2 => (
+            [4, 1, beyond.saturating_add(8), beyond],
+            Refusal::NoSuchRegister { line },
+        ),
+        _ => (
+            [4, 1, 2, beyond.saturating_add(TOO_MANY)],
+            Refusal::SkipsTooMany { line },
+        ),
+    };
     let at = LINE_SIZE.saturating_mul(line as usize).saturating_add(1);
     put_all(row, 0, &[count.max(1)]);
-    put_all(row, at, &spoiled_line(number, seed.at(2).below(100)));
-    refused(number, line)
-}
-
-// The numbers of a line that is refused with this number.
-fn spoiled_line(number: u64, beyond: u64) -> [u64; LINE_SIZE] {
-    match number {
-        5 => [beyond.saturating_add(6), 0, 0, 0],
-        6 => [4, 1, beyond.saturating_add(8), beyond],
-        _ => [4, 1, 2, beyond.saturating_add(TOO_MANY)],
-    }
+    put_all(row, at, &numbers);
+    Expected::Refused(refusal)
 }
 
 // Changes an honest entry: its script, or one number behind it.
@@ -38,31 +45,68 @@ pub fn spoil_entry(seed: Seed, row: &mut [u64]) -> Expected {
     if seed.at(3).percent(25) {
         return spoil_script(seed, row);
     }
-    let count = number_after(row, SCRIPT_SIZE, 0);
-    let place = seed.at(4).below(count);
-    let (at, expected) = spoiled_number(seed.at(5).below(6), count, place);
-    let number = match expected {
-        Expected::Refused { number: 9, .. } => TOO_MANY,
-        _ => number_after(row, at, 0).wrapping_add(1),
-    };
-    put_all(row, at, &[number]);
-    expected
-}
-
-// Which number of the entry is raised by one: the count of askings, an asking's item or answer, or the result.
-fn spoiled_number(choice: u64, count: u64, place: u64) -> (usize, Expected) {
-    let item_at = (place as usize)
-        .saturating_mul(2)
-        .saturating_add(SCRIPT_SIZE + 1);
-    match choice {
-        0 => (SCRIPT_SIZE, refused(9, LIMIT)),
-        1 if count < LIMIT => (SCRIPT_SIZE, refused(10, count)),
-        2 | 3 if count > 0 => (item_at, refused(10, place)),
-        4 if count > 0 => (item_at.saturating_add(1), Expected::Open),
-        _ => (RESULT_AT, refused(10, count)),
+    let count = number_after(row, ASKINGS_AT, 0);
+    let asking = seed.at(4).below(count);
+    match Changed::draw(seed.at(5), count) {
+        Changed::TooManyAskings => {
+            put_all(row, ASKINGS_AT, &[TOO_MANY]);
+            Expected::Refused(Refusal::TooManyAskings)
+        }
+        Changed::Count => {
+            raise(row, ASKINGS_AT);
+            not_honest(count)
+        }
+        Changed::Item => {
+            raise(row, asking_at(asking));
+            not_honest(asking)
+        }
+        Changed::Answer => {
+            raise(row, asking_at(asking).saturating_add(1));
+            Expected::Open
+        }
+        Changed::Result => {
+            raise(row, RESULT_AT);
+            not_honest(count)
+        }
     }
 }
 
-fn refused(number: u64, place: u64) -> Expected {
-    Expected::Refused { number, place }
+// The number of an entry that is changed; all but the first are raised by one.
+#[derive(Clone, Copy)]
+enum Changed {
+    // The count of askings, to more than there may be.
+    TooManyAskings,
+    Count,
+    // What an asking asks for, and its answer.
+    Item,
+    Answer,
+    Result,
+}
+
+impl Changed {
+    // An entry with no asking has none to change, and one with the most has no more.
+    fn draw(seed: Seed, count: u64) -> Changed {
+        match seed.below(6) {
+            0 => Changed::TooManyAskings,
+            1 if count < MAX_ASKINGS as u64 => Changed::Count,
+            2 | 3 if count > 0 => Changed::Item,
+            4 if count > 0 => Changed::Answer,
+            _ => Changed::Result,
+        }
+    }
+}
+
+// Where an asking stands in the entry.
+fn asking_at(asking: u64) -> usize {
+    ASKING_SIZE
+        .saturating_mul(asking as usize)
+        .saturating_add(ASKINGS_AT + 1)
+}
+
+fn raise(row: &mut [u64], at: usize) {
+    put_all(row, at, &[number_after(row, at, 0).wrapping_add(1)]);
+}
+
+fn not_honest(asking: u64) -> Expected {
+    Expected::Refused(Refusal::NotHonest { asking })
 }

@@ -1,112 +1,72 @@
-// What is counted over all days, and the words behind each number.
-use rows::number_after;
+// What is counted over all days, and how it is printed.
+use super::counter::Counter;
+use super::refusals::Refusals;
+use std::fmt;
 
-#[derive(Clone, Copy)]
-pub enum Count {
-    Commands,
-    // Commands after which something is otherwise than the rules have it.
-    Wrong,
-    // Builds that were answered, and those with the clean build's answer.
-    Builds,
-    Agreed,
-    // Builds whose list is part of the clean build's list.
-    Within,
-    Values,
-    Rings,
-    CacheHits,
-    // Builds that were made again at once, where all that the first one left was kept.
-    Again,
-    AgainHits,
-    Believed,
-    Disbelieved,
-    // Entries in the stores at the ends of the days, and those that replay.
-    Entries,
-    Honest,
-    Refused,
-    // Refused commands that left the three rows as they were.
-    Unchanged,
-}
-
-// The refusals that the commands of a house can meet stand behind the other counts.
-const FIRST_REFUSAL: usize = 2;
-
-const REFUSALS_AT: usize = 16;
-
-const PLACES: usize = 26;
-
-const WORDS: [&str; PLACES] = [
-    " commands, ",
-    " otherwise than the rules have it\n",
-    " builds, ",
-    " agreed, ",
-    " ran only what the clean build runs\n",
-    " values, ",
-    " rings, ",
-    " ran nothing\n",
-    " built again at once, ",
-    " ran nothing then\n",
-    " imports believed, ",
-    " refused\n",
-    " entries at the ends of days, ",
-    " honest\n",
-    " refused, ",
-    " changed nothing\n",
-    " refused with 2, ",
-    " with 3, ",
-    " with 4, ",
-    " with 5, ",
-    " with 6, ",
-    " with 7, ",
-    " with 8, ",
-    " with 9, ",
-    " with 10, ",
-    " with 11\n",
-];
-
-#[derive(Clone, Copy)]
+#[derive(Clone, Copy, Default)]
 pub struct Tally {
-    counts: [u64; PLACES],
+    pub commands: Counter,
+    // Commands after which something is otherwise than the rules have it.
+    pub wrong: Counter,
+    // Builds that were answered, and those with the clean build's answer.
+    pub builds: Counter,
+    pub agreed: Counter,
+    // Builds whose list is part of the clean build's list.
+    pub within: Counter,
+    pub values: Counter,
+    pub rings: Counter,
+    pub cache_hits: Counter,
+    // Builds that were made again at once, where all that the first one left was kept.
+    pub again: Counter,
+    pub again_hits: Counter,
+    pub believed: Counter,
+    pub disbelieved: Counter,
+    // Entries in the stores at the ends of the days, and those that replay.
+    pub entries: Counter,
+    pub honest: Counter,
+    pub refused: Counter,
+    // Refused commands that left the three rows as they were.
+    pub unchanged: Counter,
+    pub refusals: Refusals,
 }
 
-impl Tally {
-    pub fn new() -> Tally {
-        Tally {
-            counts: [0; PLACES],
-        }
-    }
-
-    // Counts those that hold.
-    pub fn count(&mut self, facts: &[(Count, bool)]) {
-        for (count, holds) in facts {
-            if *holds {
-                self.add_at(*count as usize);
-            }
-        }
-    }
-
-    fn add_at(&mut self, place: usize) {
-        if place < PLACES {
-            self.counts[place] = self.counts[place].saturating_add(1);
-        }
-    }
-
-    pub fn count_refusal(&mut self, number: u64) {
-        self.add_at(
-            (number as usize)
-                .saturating_sub(FIRST_REFUSAL)
-                .saturating_add(REFUSALS_AT),
-        );
-    }
-
-    pub fn of(&self, count: Count) -> u64 {
-        number_after(&self.counts, count as usize, 0)
-    }
-
-    pub fn print(&self, rt: &HostRuntime) -> anyhow::Result<()> {
-        for (place, words) in WORDS.iter().enumerate() {
-            let count = number_after(&self.counts, place, 0);
-            print!(rt; "{count}{words}")?;
-        }
-        Ok(())
+impl fmt::Display for Tally {
+    fn fmt<W: fmt::Write>(&self, f: &mut fmt::Formatter<W>) -> fmt::Result {
+        writeln!(
+            f,
+            "{} commands, {} otherwise than the rules have it",
+            self.commands, self.wrong
+        )?;
+        writeln!(
+            f,
+            "{} builds, {} agreed, {} ran only what the clean build runs",
+            self.builds, self.agreed, self.within
+        )?;
+        writeln!(
+            f,
+            "{} values, {} rings, {} ran nothing",
+            self.values, self.rings, self.cache_hits
+        )?;
+        writeln!(
+            f,
+            "{} built again at once, {} ran nothing then",
+            self.again, self.again_hits
+        )?;
+        writeln!(
+            f,
+            "{} imports believed, {} refused",
+            self.believed, self.disbelieved
+        )?;
+        writeln!(
+            f,
+            "{} entries at the ends of days, {} honest",
+            self.entries, self.honest
+        )?;
+        writeln!(
+            f,
+            "{} refused, {} changed nothing",
+            self.refused, self.unchanged
+        )?;
+        writeln!(f, "{}", self.refusals)
     }
 }

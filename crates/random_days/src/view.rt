@@ -3,11 +3,10 @@ ghost use Rattle.house.specs.Desks.{desk_in, desk_part, desk_size};
 ghost use Rattle.std.specs.Prelude.{◌≡◌, ◌+◌, ◌-◌, ◌*◌, ◌^◌, ◌≤◌, ◌⊎◌, length, IfSome};
 ghost use Rattle.theory.specs.Clean.{clean, value};
 
-use super::place::Place;
 use super::pool::Pool;
 use super::seed::Seed;
 use clean::{CleanAnswer, clean_build};
-use house::HouseSize;
+use house::{House, HouseSize, Place};
 use items::{ITEM_SIZE, MAX_ITEMS};
 use rows::{front, tail};
 
@@ -16,29 +15,27 @@ pub const LIST_SIZE: usize = 1 + MAX_ITEMS;
 
 #[derive(Clone, Copy)]
 pub struct View<'a> {
-    pub size: HouseSize,
+    pub house: &'a House,
     pub pool: Pool,
-    pub desks: &'a [u64],
-    pub store: &'a [u64],
 }
 
 impl View<'_> {
     // A small number, so that answers repeat and name items; seldom one that makes sums wrap.
     pub fn draw_value(self, seed: Seed) -> u64
-        ensures { (result ≡ 2 ^ 64 - 1) ⊎ (result ≤ self.entry.size.items) }
+        ensures { (result ≡ 2 ^ 64 - 1) ⊎ (result ≤ self.entry.house.now.size.items) }
     {
         if seed.at(0).percent(2) {
             return u64::MAX;
         }
-        seed.at(1).between(0, self.size.items)
+        seed.at(1).between(0, self.house.size.items)
     }
 
     // The clean value of an item, if it has one.
     pub fn clean_value(self, place: Place) -> Option<u64>
-        ensures { desk_size self.entry.size.items * (place.desk + 1) ≤ length self.entry.desks.now → IfSome result (λ v. clean (desk_in self.entry.size self.entry.desks.now place.desk) place.item ≡ value v) }
+        ensures { let house = self.entry.house.now in desk_size house.size.items * (place.desk + 1) ≤ length house.desks.items → IfSome result (λ v. clean (desk_in house.size house.desks.items place.desk) place.item ≡ value v) }
     {
         let mut ran = [0; LIST_SIZE];
-        let items = desk_items(self.size, self.desks, place.desk);
+        let items = desk_items(self.house.size, self.house.desks.as_slice(), place.desk);
         match clean_build(items, &mut ran, place.item) {
             Ok(CleanAnswer::Value(value)) => Some(value),
             _ => None,
