@@ -7,7 +7,7 @@ ghost use Rattle.std.specs.Prelude.{◌≡◌, slice_index};
 pub fn byte_at(bytes: &[u8], at: usize) -> u8
     ensures { result ≡ slice_index bytes.now at }
 {
-    if at < bytes.len() { bytes[at] } else { 0 }
+    bytes.get(at).copied().unwrap_or(0)
 }
 
 // The number of four bytes, low byte first.

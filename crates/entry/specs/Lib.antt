@@ -1,3 +1,4 @@
+pub mod Remaining
 pub mod Layout
 pub mod Entry
 pub mod Rows

@@ -31,6 +31,7 @@ fn replay_parts(script: &[u64], askings: &[u64], given: u64) -> Result<(), u64>
 {
     let count = asking_count(askings);
     let mut registers = Registers::new();
+    // By number and not over the askings: the number is what is told.
     for index in 0..count {
         let Step::Asks { item, waiting } = run(script, registers) else {
             return Err(index as u64);

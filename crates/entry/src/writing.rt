@@ -41,7 +41,8 @@ fn write_askings(row: &mut [u64], askings: &[u64])
     clear_from(row, 1 + ASKING_SIZE * count);
 }
 
-// Copies the askings behind the row's first number.
+// Copies the askings behind the row's first number. One function over any iterator of pieces was tried for this and the like of it:
+// its own proof closed, but a caller's did not see what the closure of its `map` gives.
 fn write_each(row: &mut [u64], askings: &[u64])
     requires { askings_size ≤ length row.old }
     ensures { take (1 + asking_size * length (askings_in askings.now)) row.new ≡ take 1 row.old ++ flat_map asking_out (askings_in askings.now) }

@@ -1,7 +1,7 @@
 // Total access to a lent row: a number that is not there reads as 0 and takes no write.
 #![tactic(auto)]
 
-ghost use Rattle.std.specs.Prelude.{◌≡◌, ◌+◌, ◌-◌, ◌<◌, ◌≤◌, ◌++◌, length, take, drop, replicate, MatchOption, OnOk, slice_index, slice_set};
+ghost use Rattle.std.specs.Prelude.{◌≡◌, ◌+◌, ◌-◌, ◌++◌, length, take, drop, replicate, OnOk, slice_index, slice_set};
 ghost use Rattle.rows.specs.Rows.{written_at};
 
 mod row_parts;
@@ -26,28 +26,20 @@ pub fn front<T>(row: &[T], count: usize) -> &[T]
     &row[..end]
 }
 
-// The place `offset` after `at`, if a row of this length has it.
-fn place_in(length: usize, at: usize, offset: usize) -> Option<usize>
-    ensures { MatchOption result (length ≤ at + offset) (λ place. (place ≡ at + offset) × (place < length)) }
-{
-    let place = at.checked_add(offset)?;
-    if place < length { Some(place) } else { None }
-}
-
 // The number `offset` places after `at`.
 pub fn number_after(row: &[u64], at: usize, offset: usize) -> u64
     ensures { result ≡ slice_index row.now (at + offset) }
 {
-    match place_in(row.len(), at, offset) {
-        Some(place) => row[place],
-        None => 0,
-    }
+    row.get(at.saturating_add(offset)).copied().unwrap_or(0)
 }
 
+// By its place and not by `get_mut`, of which the library does not say what the row ends as.
+#[tactic(auto, using(std::proofs::lemmas::List::set_past))]
 fn put_after(row: &mut [u64], at: usize, offset: usize, number: u64)
     ensures { row.new ≡ slice_set row.old (at + offset) number }
 {
-    if let Some(place) = place_in(row.len(), at, offset) {
+    let place = at.saturating_add(offset);
+    if place < row.len() {
         row[place] = number;
     }
 }

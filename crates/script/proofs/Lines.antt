@@ -1,6 +1,7 @@
 -- Laws of the lines that stand in a row. Assumes nothing.
 use Rattle.std.proofs.Common.{◌≡◌, ℕ, ◌+◌, ◌*◌, ◌<◌, ◌≤◌, min, List, ◌++◌, length, get_or, take, drop, refl, ap, ◌∙◌, arith}
 use Rattle.std.proofs.lemmas.List.{get_or-drop, get_or-take}
+use Rattle.script.specs.Allowed.{first_source, source_line}
 use Rattle.script.specs.Layout.{line_size, max_lines, script_size}
 use Rattle.script.specs.Rows.{first_line, line_at, line_out, script_in, script_out}
 use Rattle.script.specs.declared.line.Line.{Line}
@@ -21,6 +22,10 @@ line_drop xs n at =
     let same : (j : ℕ) → get_or (drop n xs) (at + j) 0 ≡ get_or xs (n + at + j) 0
     = λ j. get_or-drop n xs (at + j) 0 ∙ ap (λ i. get_or xs i 0) (omega arith) in
     rw (same 0, same 1, same 2, same 3) refl
+
+-- and so is a line from outside
+pub source_drop : (xs : List ℕ) (at : ℕ) → first_source (drop at xs) ≡ source_line (get_or xs (at + 0) 0) (get_or xs (at + 1) 0) (get_or xs (at + 2) 0) (get_or xs (at + 3) 0)
+source_drop xs at = let there : (j : ℕ) → get_or (drop at xs) j 0 ≡ get_or xs (at + j) 0 = λ j. get_or-drop at xs j 0 in rw (there 0, there 1, there 2, there 3) refl
 
 pub script_at : (xs : List ℕ) (i : ℕ) (d : Line) → i < length (script_in xs) → get_or (script_in xs) i d ≡ line_at xs (1 + line_size * i)
 script_at xs i d h =

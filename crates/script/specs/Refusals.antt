@@ -1,5 +1,5 @@
 -- The number and the place that each refusal is told with. Assumes nothing.
-use Rattle.std.specs.Prelude.{ℕ}
+use Rattle.std.specs.Prelude.{ℕ, List, ◌++◌, codes, decimal}
 use Rattle.script.specs.Layout.{max_lines, max_askings}
 use Rattle.script.specs.declared.refusal.Refusal.{Refusal}
 use Rattle.script.specs.declared.refusal.Refusal.TheVariants.{Unreadable, NoSuchDesk, NoSuchItem, TooManyLines, UnknownKind, NoSuchRegister, SkipsTooMany, NoSuchEntry, TooManyAskings, NotHonest, StoreFull, StoreTooShort, StoreOverfull, ListTooShort}
@@ -35,3 +35,7 @@ place_of (StoreFull room) = room
 place_of (StoreTooShort n) = n
 place_of (StoreOverfull count) = count
 place_of (ListTooShort n) = n
+
+-- how a refusal is told of: its number and its place
+abbrev pub refused_text : Refusal → List ℕ
+refused_text f = codes "refused " ++ (decimal (number_of f) ++ (codes " at " ++ decimal (place_of f)))

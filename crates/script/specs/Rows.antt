@@ -28,7 +28,11 @@ used kind = cond (nat_lt kind 3) 2 (cond (nat_lt kind 5) 3 1)
 abbrev pub InForm : ℕ → ℕ → ℕ → Type 0
 InForm kind a b = (kind ≤ 5) × (used kind ≤ 1 → a ≡ 0) × (used kind ≤ 2 → b ≡ 0)
 
--- the line that begins at a place of the row; a number that is not there reads as 0
+-- the four numbers from a place of the row on; one that is not there reads as 0
+abbrev pub numbers_at : List ℕ → ℕ → List ℕ
+numbers_at row at = slice_index row (at + 0) ∷ slice_index row (at + 1) ∷ slice_index row (at + 2) ∷ slice_index row (at + 3) ∷ []
+
+-- the line that begins at a place of the row
 abbrev pub line_at : List ℕ → ℕ → Line
 line_at row at = line_in (slice_index row (at + 0)) (slice_index row (at + 1)) (slice_index row (at + 2)) (slice_index row (at + 3))
 

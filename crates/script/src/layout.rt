@@ -3,6 +3,9 @@
 // Numbers that a line takes in a row: its kind and three more.
 pub const LINE_SIZE: usize = 4;
 
+// The highest kind of a line, which gives; any above it counts as it where the line is run.
+pub const LAST_KIND: u64 = 5;
+
 // Lines that a script has at most.
 pub const MAX_LINES: usize = 32;
 

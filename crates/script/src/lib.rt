@@ -6,7 +6,7 @@ mod line;
 mod refusal;
 mod source;
 
-pub use layout::{LINE_SIZE, MAX_ASKINGS, MAX_LINES, MAX_SKIP, REGISTERS, SCRIPT_SIZE};
+pub use layout::{LAST_KIND, LINE_SIZE, MAX_ASKINGS, MAX_LINES, MAX_SKIP, REGISTERS, SCRIPT_SIZE};
 pub use line::Line;
 pub use refusal::Refusal;
 pub use source::SourceLine;

@@ -1,11 +1,12 @@
 // One line of a script, and the four numbers that stand for it in a row.
 ghost use Rattle.std.specs.Prelude.{◌≡◌, ◌+◌, ◌≤◌, [], ◌∷◌, length};
-ghost use Rattle.script.specs.Rows.{InForm, line_at, line_in, line_out};
+ghost use Rattle.script.specs.Rows.{InForm, line_at, line_in, line_out, numbers_at};
 ghost use Rattle.rows.specs.Rows.{written_at};
 
-use super::layout::LINE_SIZE;
-use rows::{number_after, put_all};
+use super::layout::{LAST_KIND, LINE_SIZE};
+use rows::{number_after, put_all, tail};
 
+// The kinds are numbers of the row's format, and become a `Line` where they are read; an enum of them would be a second list of the same six.
 const ASK: u64 = 0;
 
 const ASK_AT: u64 = 1;
@@ -16,7 +17,7 @@ const SUM: u64 = 3;
 
 const UNLESS: u64 = 4;
 
-const GIVE: u64 = 5;
+const GIVE: u64 = LAST_KIND;
 
 // Registers are numbered from 0; a row from elsewhere may name one that is not there.
 #[derive(Clone, Copy, PartialEq, Debug)]
@@ -90,12 +91,8 @@ impl Line {
     pub fn read(row: &[u64], at: usize) -> Line
         ensures { result ≡ line_at row.now at }
     {
-        match at.checked_add(LINE_SIZE) {
-            Some(end) if end <= row.len() => {
-                Line::from_numbers(row[at], row[at + 1], row[at + 2], row[at + 3])
-            }
-            _ => read_cut(row, at),
-        }
+        let [kind, first, second, third] = numbers_at(row, at);
+        Line::from_numbers(kind, first, second, third)
     }
 
     // Unused numbers are 0.
@@ -118,6 +115,7 @@ impl Line {
     }
 
     // Writes the line's numbers from `at` on; what would lie past the end of the row is not written.
+    #[tactic(auto, using(crate::proofs::Lines::line_written))]
     pub fn write(self, row: &mut [u64], at: usize)
         ensures after { row.new ≡ written_at row.old at (line_out self) }
         ensures reads_back { at + 4 ≤ length row.old → line_at row.new at ≡ self }
@@ -126,13 +124,17 @@ impl Line {
     }
 }
 
-// A line of which the row may have only a part, so that the rest reads as 0.
-fn read_cut(row: &[u64], at: usize) -> Line
-    ensures { result ≡ line_at row.now at }
+// The numbers of the line whose first stands at `at`. A row may have only a part of them, and the rest then reads as 0.
+pub fn numbers_at(row: &[u64], at: usize) -> [u64; LINE_SIZE]
+    ensures { result ≡ numbers_at row.now at }
 {
-    let kind = number_after(row, at, 0);
-    let first = number_after(row, at, 1);
-    let second = number_after(row, at, 2);
-    let third = number_after(row, at, 3);
-    Line::from_numbers(kind, first, second, third)
+    match tail(row, at).first_chunk() {
+        Some(whole) => *whole,
+        None => [
+            number_after(row, at, 0),
+            number_after(row, at, 1),
+            number_after(row, at, 2),
+            number_after(row, at, 3),
+        ],
+    }
 }

@@ -1,6 +1,8 @@
 // Why a command is refused: the whole list, in the order in which the first that applies is told.
-ghost use Rattle.std.specs.Prelude.{◌≡◌};
-ghost use Rattle.script.specs.Refusals.{number_of, place_of};
+ghost use Rattle.std.specs.Prelude.{◌≡◌, Some};
+ghost use Rattle.script.specs.Refusals.{number_of, place_of, refused_text};
+
+use std::fmt;
 
 // Each variant holds its place, except where the place is always the limit itself.
 #[derive(Clone, Copy, PartialEq, Debug)]
@@ -68,5 +70,16 @@ impl Refusal {
             Refusal::StoreOverfull { count } => count,
             Refusal::ListTooShort { length } => length,
         }
+    }
+}
+
+// As a command or an entry that is refused is told of.
+impl fmt::Display for Refusal {
+    ghost output = { λ refusal. Some (refused_text refusal) };
+
+    fn fmt<W: fmt::Write>(&self, f: &mut fmt::Formatter<W>) -> fmt::Result {
+        let number = self.number();
+        let place = self.place();
+        write!(f, "refused {number} at {place}")
     }
 }

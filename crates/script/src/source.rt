@@ -4,13 +4,9 @@ ghost use Rattle.script.specs.Layout.{max_skip};
 ghost use Rattle.std.specs.Prelude.{◌≡◌, drop, IfOk, if◌then◌else◌, Some, None, nat_lt};
 ghost use Rattle.std.specs.Result.{result_err};
 
-use super::layout::{MAX_SKIP, REGISTERS};
-use super::line::Line;
+use super::layout::{LAST_KIND, MAX_SKIP, REGISTERS};
+use super::line::{Line, numbers_at};
 use super::refusal::Refusal;
-use rows::number_after;
-
-// The highest kind that a line has.
-const LAST_KIND: u64 = 5;
 
 #[derive(Clone, Copy, PartialEq, Debug)]
 pub enum SourceLine {
@@ -34,24 +30,12 @@ impl SourceLine {
     }
 
     // The line whose first number stands at `at` of a row from elsewhere.
+    #[tactic(auto, using(crate::proofs::Lines::source_drop))]
     pub fn read(row: &[u64], at: usize) -> SourceLine
         ensures { result ≡ first_source (drop at row.now) }
     {
-        let kind = number_after(row, at, 0);
-        let first = number_after(row, at, 1);
-        let second = number_after(row, at, 2);
-        let third = number_after(row, at, 3);
+        let [kind, first, second, third] = numbers_at(row, at);
         SourceLine::from_numbers(kind, first, second, third)
-    }
-
-    // The line that it counts as where it is run.
-    pub fn line(self) -> Line
-        ensures { result ≡ counted_as self }
-    {
-        match self {
-            SourceLine::Known(line) => line,
-            SourceLine::Unknown { register, .. } => Line::Give { register },
-        }
     }
 
     // The line itself if it is allowed, or the first reason why it is not; `line` is its number in the script.
@@ -69,6 +53,18 @@ impl SourceLine {
             return Err(Refusal::SkipsTooMany { line });
         };
         Ok(allowed)
+    }
+}
+
+// The line that it counts as where it is run.
+impl From<SourceLine> for Line {
+    ghost from_gives = { λ source line. line ≡ counted_as source };
+
+    fn from(source: SourceLine) -> Line {
+        match source {
+            SourceLine::Known(line) => line,
+            SourceLine::Unknown { register, .. } => Line::Give { register },
+        }
     }
 }
 

@@ -20,7 +20,8 @@ pub fn check_script(lines: &[SourceLine]) -> Result<(), Refusal>
     Ok(())
 }
 
-// The same of a script in a row from elsewhere, whose count and lines may be anything.
+// The same of a script in a row from elsewhere, whose count and lines may be anything. One loop over any iterator of lines
+// would have to say what a run that is cut off has given, and is no plainer than these three lines again.
 pub fn check_script_row(script: &[u64]) -> Result<(), Refusal>
     ensures fault { result_err result ≡ script_fault (sources_in script.now) }
     ensures exactly { Decides (is_ok result) (ScriptAllowed (sources_in script.now)) }

@@ -22,7 +22,8 @@ pub fn write_script(row: &mut [u64], script: &[u64])
     clear_from(row, 1 + LINE_SIZE * count);
 }
 
-// Copies the lines behind the row's first number.
+// Copies the lines behind the row's first number. One function over any iterator of pieces was tried for this and the like of it:
+// its own proof closed, but a caller's did not see what the closure of its `map` gives.
 fn write_lines(row: &mut [u64], script: &[u64])
     requires { script_size ≤ length row.old }
     ensures { take (1 + line_size * length (script_in script.now)) row.new ≡ take 1 row.old ++ flat_map line_out (script_in script.now) }
@@ -58,6 +59,6 @@ fn write_source_lines(row: &mut [u64], lines: &[SourceLine])
     ensures { take (1 + line_size * length (map counted_as lines.now)) row.new ≡ take 1 row.old ++ flat_map line_out (map counted_as lines.now) }
 {
     for (index, line) in lines.iter().enumerate() {
-        line.line().write(row, 1 + LINE_SIZE * index);
+        Line::from(*line).write(row, 1 + LINE_SIZE * index);
     }
 }

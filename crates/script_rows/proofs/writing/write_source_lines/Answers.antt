@@ -13,8 +13,8 @@ loop-index-preserved c =
     let many = length-map lines counted_as in
     let inside : c.loop-index.index < length (map counted_as lines) = omega (arith, c.loop-index-test.true) in
     let room : 1 + line_size * length (map counted_as lines) ≤ length c.args.row.now = omega (arith, c.requires.long, c.requires.few) in
-    let here = get_or-map counted_as lines c.loop-index.index _ c.line.result c.loop-index-test.true ∙ sym c.line.ensures in
-    begun_more line_out line_size length_line _ _ _ c.line.result inside room here c.write.ensures.after c.loop-index.invariant
+    let here = get_or-map counted_as lines c.loop-index.index _ c.from.result c.loop-index-test.true ∙ sym c.from.ensures in
+    begun_more line_out line_size length_line _ _ _ c.from.result inside room here c.write.ensures.after c.loop-index.invariant
 
 pub returns : goal.returns
 returns c =
