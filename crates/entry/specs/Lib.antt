@@ -1,4 +1,3 @@
-pub mod Remaining
 pub mod Layout
 pub mod Entry
 pub mod Rows

@@ -1,12 +1,10 @@
 // The askings of an entry in their row: a count, and then an item and an answer for each.
-ghost use Rattle.std.specs.Prelude.{◌≡◌, ◌<◌, ◌≤◌, length, drop, MatchOption, slice_index_or};
-ghost use Rattle.entry.specs.Remaining.{askings_left};
+ghost use Rattle.std.specs.Prelude.{◌≡◌, ◌≤◌, length, drop};
 ghost use Rattle.entry.specs.Rows.{asking_out, askings_in, first_asking};
 ghost use Rattle.rows.specs.Rows.{written_at};
-ghost use Rattle.std.specs.Iterator.{YieldsFirst, item_count};
 
 use super::layout::ASKING_SIZE;
-use rows::{RowParts, number_after, parts, put_all, tail};
+use rows::{number_after, put_all};
 use script::MAX_ASKINGS;
 
 // The item that was asked for, and the answer.
@@ -41,42 +39,4 @@ pub fn asking_count(askings: &[u64]) -> usize
 {
     let count = number_after(askings, 0, 0) as usize;
     count.min(MAX_ASKINGS)
-}
-
-pub fn asking_of(askings: &[u64], index: usize) -> Option<Asking>
-    ensures { MatchOption result (length (askings_in askings.now) ≤ index) (λ asking. (index < length (askings_in askings.now)) × (slice_index_or (askings_in askings.now) index asking ≡ asking)) }
-{
-    if index < asking_count(askings) {
-        Some(Asking::read(askings, 1 + ASKING_SIZE * index))
-    } else {
-        None
-    }
-}
-
-// The askings of an entry in their order.
-#[derive(Drop)]
-pub struct EntryAskings<'a> {
-    parts: RowParts<'a, u64>,
-}
-
-// Those of a row, from the first on.
-pub fn askings_of(row: &[u64]) -> EntryAskings<'_>
-    ensures { askings_left result ≡ askings_in row.now }
-{
-    EntryAskings {
-        parts: parts(tail(row, 1), ASKING_SIZE, asking_count(row)),
-    }
-}
-
-impl<'a> Iterator for EntryAskings<'a> {
-    type Item = Asking;
-
-    ghost next_gives = { YieldsFirst askings_left };
-
-    ghost remaining = { item_count askings_left };
-
-    fn next(&mut self) -> Option<Asking> {
-        let part = self.parts.next()?;
-        Some(Asking::read(part, 0))
-    }
 }
