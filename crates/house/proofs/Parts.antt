@@ -9,7 +9,7 @@ use Rattle.items.proofs.Placed.{told}
 use Rattle.script.specs.declared.refusal.Refusal.TheVariants.{NoSuchItem}
 use Rattle.house.specs.DeskFaults.{Stands, desk_fault}
 use Rattle.house.specs.Desks.{desk_part, desk_size, has_desk, with_desk}
-use Rattle.house.specs.declared.desks.Span.{Span}
+use Rattle.std.specs.declared.ops.Range.{Range}
 use Rattle.house.specs.declared.size.HouseSize.{HouseSize}
 
 module _ (z : HouseSize) (row : List ℕ) (x : ℕ) (start end : ℕ) (from : start ≡ desk_size z.items * x) (to : end ≡ desk_size z.items * (x + 1)) where
@@ -28,7 +28,7 @@ module _ (z : HouseSize) (row : List ℕ) (x : ℕ) (start end : ℕ) (from : st
   laid_in part = rw (long, from, drop-drop, ← next) refl
 
 -- what a span that was told says
-pub spanned : (z : HouseSize) (row : List ℕ) (x : ℕ) (s : Span) → Some s ≡ cond (has_desk z row x) (Some (record { start = desk_size z.items * x; end = desk_size z.items * (x + 1) })) None → (has_desk z row x ≡ true) × (s.start ≡ desk_size z.items * x) × (s.end ≡ desk_size z.items * (x + 1)) × (s.end ≤ length row)
+pub spanned : (z : HouseSize) (row : List ℕ) (x : ℕ) (s : Range ℕ) → Some s ≡ cond (has_desk z row x) (Some (record { start = desk_size z.items * x; end = desk_size z.items * (x + 1) })) None → (has_desk z row x ≡ true) × (s.start ≡ desk_size z.items * x) × (s.end ≡ desk_size z.items * (x + 1)) × (s.end ≤ length row)
 spanned z row x s e =
     let is = told (has_desk z row x) s _ e in
     let to = ap (λ t. t.end) is.1 in
@@ -42,7 +42,7 @@ pub both_there : (z : HouseSize) (row : List ℕ) (x k : ℕ) → has_desk z row
 both_there z row x k desk item = sym (cond-true _ _ _ desk ∙ cond-true _ _ _ item)
 
 -- an item of the desk that is written anew in the desk's part, under a test that holds
-pub rewritten_in : (z : HouseSize) (row : List ℕ) (x k : ℕ) (s : Span) → Stands z row x k s → (b : Bool) (i : Item) {part : List ℕ} → b ≡ true → part ≡ cond b (rewritten (take (s.end - s.start) (drop s.start row)) k i) (take (s.end - s.start) (drop s.start row)) → put_mid s.start (s.end - s.start) row part ≡ with_desk z row x (rewritten (desk_part z row x) k i)
+pub rewritten_in : (z : HouseSize) (row : List ℕ) (x k : ℕ) (s : Range ℕ) → Stands z row x k s → (b : Bool) (i : Item) {part : List ℕ} → b ≡ true → part ≡ cond b (rewritten (take (s.end - s.start) (drop s.start row)) k i) (take (s.end - s.start) (drop s.start row)) → put_mid s.start (s.end - s.start) row part ≡ with_desk z row x (rewritten (desk_part z row x) k i)
 rewritten_in z row x k s there b i {part} holds is =
     laid_in z row x s.start s.end there.start there.end part
     ∙ ap (with_desk z row x) (is ∙ cond-true _ _ _ holds ∙ ap (λ xs. rewritten xs k i) (cut_out z row x s.start s.end there.start there.end))

@@ -6,7 +6,7 @@ use Rattle.script.specs.declared.refusal.Refusal.{Refusal}
 use Rattle.script.specs.declared.refusal.Refusal.TheVariants.{NoSuchDesk, NoSuchItem}
 use Rattle.script.specs.declared.source.SourceLine.{SourceLine}
 use Rattle.house.specs.Desks.{desk_part, desk_size, has_desk}
-use Rattle.house.specs.declared.desks.Span.{Span}
+use Rattle.std.specs.declared.ops.Range.{Range}
 use Rattle.house.specs.declared.size.HouseSize.{HouseSize}
 
 -- the desk, and then the item at it
@@ -17,11 +17,11 @@ abbrev pub script_at_fault : HouseSize → List ℕ → ℕ → ℕ → List Sou
 script_at_fault z row x k ls = or_else (desk_fault z row x k) (script_fault ls)
 
 -- where a desk stands that is there, with an item that it has
-pub record Stands (z : HouseSize) (row : List ℕ) (x k : ℕ) (s : Span) : Type 0 where
+pub record Stands (z : HouseSize) (row : List ℕ) (x k : ℕ) (s : Range ℕ) : Type 0 where
   pub start : s.start ≡ desk_size z.items * x
   pub end : s.end ≡ desk_size z.items * (x + 1)
   pub inside : s.end ≤ length row
   pub has : has_item (desk_part z row x) k ≡ true
 
-abbrev pub Found : HouseSize → List ℕ → ℕ → ℕ → Result Span Refusal → Type 0
+abbrev pub Found : HouseSize → List ℕ → ℕ → ℕ → Result (Range ℕ) Refusal → Type 0
 Found z row x k r = IfOk r (λ s. Stands z row x k s)

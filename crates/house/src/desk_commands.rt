@@ -8,56 +8,48 @@ ghost use Rattle.std.specs.Prelude.{◌≡◌, map, is_ok, if◌then◌else◌};
 ghost use Rattle.std.specs.Result.{result_err};
 ghost use Rattle.theory.specs.Items.{made, written};
 
-use super::desks::{Span, desk_span};
-use super::size::HouseSize;
+use super::desks::desk_span;
+use super::size::{HouseSize, Place};
 use build::{Answer, build_item};
 use items::{has_item, write_made, write_value};
 use script::{Refusal, SourceLine};
 use script_checks::check_script;
+use std::ops::Range;
 
 // Where the desk stands, if it is there and has the item: first the desk is refused, then the item.
-pub fn find_item(size: HouseSize, desks: &[u64], desk: u64, item: u64) -> Result<Span, Refusal>
-    ensures fault { result_err result ≡ desk_fault size desks.now desk item }
-    ensures value { Found size desks.now desk item result }
+pub fn find_item(size: HouseSize, desks: &[u64], place: Place) -> Result<Range<usize>, Refusal>
+    ensures fault { result_err result ≡ desk_fault size desks.now place.desk place.item }
+    ensures value { Found size desks.now place.desk place.item result }
 {
-    let Some(span) = desk_span(size, desks.len(), desk) else {
-        return Err(Refusal::NoSuchDesk { desk });
-    };
-    let Span { start, end } = span;
-    if !has_item(&desks[start..end], item) {
+    let Place { desk, item } = place;
+    let span = desk_span(size, desks.len(), desk).ok_or(Refusal::NoSuchDesk { desk })?;
+    if !has_item(&desks[span.start..span.end], item) {
         return Err(Refusal::NoSuchItem { item });
     }
     Ok(span)
 }
 
-pub fn write_at(
-    size: HouseSize,
-    desks: &mut [u64],
-    desk: u64,
-    item: u64,
-    value: u64,
-) -> Result<(), Refusal>
-    ensures fault { result_err result ≡ desk_fault size desks.old desk item }
-    ensures after { desks.new ≡ (if is_ok result then with_desk size desks.old desk (rewritten (desk_part size desks.old desk) item (written value)) else desks.old) }
+pub fn write_at(size: HouseSize, desks: &mut [u64], place: Place, value: u64) -> Result<(), Refusal>
+    ensures fault { result_err result ≡ desk_fault size desks.old place.desk place.item }
+    ensures after { desks.new ≡ (if is_ok result then with_desk size desks.old place.desk (rewritten (desk_part size desks.old place.desk) place.item (written value)) else desks.old) }
 {
-    let Span { start, end } = find_item(size, desks, desk, item)?;
-    write_value(&mut desks[start..end], item, value);
+    let span = find_item(size, desks, place)?;
+    write_value(&mut desks[span], place.item, value);
     Ok(())
 }
 
 pub fn script_at(
     size: HouseSize,
     desks: &mut [u64],
-    desk: u64,
-    item: u64,
+    place: Place,
     lines: &[SourceLine],
 ) -> Result<(), Refusal>
-    ensures fault { result_err result ≡ script_at_fault size desks.old desk item lines.now }
-    ensures after { desks.new ≡ (if is_ok result then with_desk size desks.old desk (rewritten (desk_part size desks.old desk) item (made (map counted_as lines.now))) else desks.old) }
+    ensures fault { result_err result ≡ script_at_fault size desks.old place.desk place.item lines.now }
+    ensures after { desks.new ≡ (if is_ok result then with_desk size desks.old place.desk (rewritten (desk_part size desks.old place.desk) place.item (made (map counted_as lines.now))) else desks.old) }
 {
-    let Span { start, end } = find_item(size, desks, desk, item)?;
+    let span = find_item(size, desks, place)?;
     check_script(lines)?;
-    write_made(&mut desks[start..end], item, lines);
+    write_made(&mut desks[span], place.item, lines);
     Ok(())
 }
 
@@ -67,13 +59,13 @@ pub fn build_at(
     desks: &[u64],
     rows: &mut [u64],
     ran: &mut [u64],
-    desk: u64,
-    item: u64,
+    place: Place,
 ) -> Answer
-    ensures { BuiltAt size desk item desks.now rows.old ran.old result rows.new ran.new }
+    ensures { BuiltAt size place.desk place.item desks.now rows.old ran.old result rows.new ran.new }
 {
-    let Some(Span { start, end }) = desk_span(size, desks.len(), desk) else {
+    let Place { desk, item } = place;
+    let Some(span) = desk_span(size, desks.len(), desk) else {
         return Answer::Refused(Refusal::NoSuchDesk { desk });
     };
-    build_item(&desks[start..end], rows, ran, item)
+    build_item(&desks[span], rows, ran, item)
 }

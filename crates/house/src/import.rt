@@ -11,10 +11,9 @@ ghost use Rattle.std.specs.Result.{result_err};
 ghost use Rattle.store.specs.Faults.{add_fault};
 ghost use Rattle.store.specs.Rows.{added};
 
-use super::check::check_askings;
+use super::check::check_parts;
 use entry::{Asking, ENTRY_SIZE, write_from_parts};
 use script::{Refusal, SourceLine};
-use script_checks::check_script;
 use store::admit_entry;
 
 // Its script is checked line by line, then its count of askings; it is believed only if it replays, and goes to the end.
@@ -27,8 +26,7 @@ pub fn import(
     ensures fault { result_err result ≡ bring_fault rows.old lines.now askings.now given }
     ensures after { rows.new ≡ (if is_ok result then added rows.old (entry_of lines.now askings.now given) else rows.old) }
 {
-    check_script(lines)?;
-    check_askings(askings)?;
+    check_parts(lines, askings)?;
     admit(rows, lines, askings, given)
 }
 

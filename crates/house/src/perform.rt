@@ -6,7 +6,7 @@ ghost use Rattle.std.specs.Prelude.{◌≡◌};
 use super::command::Command;
 use super::desk_commands::{build_at, script_at, write_at};
 use super::import::import;
-use super::size::HouseSize;
+use super::size::{HouseSize, Place};
 use build::Answer;
 use script::Refusal;
 use store::remove_entry;
@@ -21,6 +21,29 @@ pub enum Told {
     Ring,
 }
 
+impl From<Result<(), Refusal>> for Told {
+    ghost from_gives = { λ outcome told. told ≡ told_by outcome };
+
+    fn from(outcome: Result<(), Refusal>) -> Told {
+        match outcome {
+            Ok(()) => Told::Done,
+            Err(refusal) => Told::Refused(refusal),
+        }
+    }
+}
+
+impl From<Answer> for Told {
+    ghost from_gives = { λ answer told. told ≡ told_of answer };
+
+    fn from(answer: Answer) -> Told {
+        match answer {
+            Answer::Value(value) => Told::Value(value),
+            Answer::Ring => Told::Ring,
+            Answer::Refused(refusal) => Told::Refused(refusal),
+        }
+    }
+}
+
 impl Command {
     // The desks, the store and the list are lent rows; a refusal leaves all three as they were.
     pub fn perform(
@@ -32,45 +55,24 @@ impl Command {
     ) -> Told
         ensures { PerformedSo size (deed_of self.now) desks.old rows.old ran.old result desks.new rows.new ran.new }
     {
-        match self {
-            Command::Write { desk, item, value } => verdict(write_at(
-                size, desks, *desk, *item, *value,
-            )),
-            Command::Script { desk, item, lines } => verdict(script_at(
-                size,
-                desks,
-                *desk,
-                *item,
-                lines.as_slice(),
-            )),
-            Command::Build { desk, item } => answered(build_at(
-                size, desks, rows, ran, *desk, *item,
-            )),
-            Command::Remove { entry } => verdict(remove_entry(rows, *entry)),
+        match *self {
+            Command::Write { desk, item, value } => {
+                write_at(size, desks, Place { desk, item }, value).into()
+            }
+            Command::Script {
+                desk,
+                item,
+                ref lines,
+            } => script_at(size, desks, Place { desk, item }, lines.as_slice()).into(),
+            Command::Build { desk, item } => {
+                build_at(size, desks, rows, ran, Place { desk, item }).into()
+            }
+            Command::Remove { entry } => remove_entry(rows, entry).into(),
             Command::Import {
-                lines,
-                askings,
-                result,
-            } => verdict(import(rows, lines.as_slice(), askings.as_slice(), *result)),
+                ref lines,
+                ref askings,
+                ref result,
+            } => import(rows, lines.as_slice(), askings.as_slice(), *result).into(),
         }
-    }
-}
-
-fn verdict(outcome: Result<(), Refusal>) -> Told
-    ensures { result ≡ told_by outcome }
-{
-    match outcome {
-        Ok(()) => Told::Done,
-        Err(refusal) => Told::Refused(refusal),
-    }
-}
-
-fn answered(answer: Answer) -> Told
-    ensures { result ≡ told_of answer }
-{
-    match answer {
-        Answer::Value(value) => Told::Value(value),
-        Answer::Ring => Told::Ring,
-        Answer::Refused(refusal) => Told::Refused(refusal),
     }
 }

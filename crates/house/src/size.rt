@@ -14,7 +14,7 @@ pub struct HouseSize {
     pub room: u64,
 }
 
-// An item at a desk, both of which are there.
+// An item at a desk, of which either may be missing.
 #[derive(Clone, Copy)]
 pub struct Place {
     pub desk: u64,
@@ -27,18 +27,15 @@ impl HouseSize {
         ensures fault { result_err result ≡ place_fault self desk item }
         ensures value { IfOk result (λ place. (place.desk ≡ desk) × (place.item ≡ item)) }
     {
-        let Some(desk) = below(desk, self.desks) else {
-            return Err(Refusal::NoSuchDesk { desk });
-        };
-        let Some(item) = below(item, self.items) else {
-            return Err(Refusal::NoSuchItem { item });
-        };
+        let desk = below(desk, self.desks).ok_or(Refusal::NoSuchDesk { desk })?;
+        let item = below(item, self.items).ok_or(Refusal::NoSuchItem { item })?;
         Ok(Place { desk, item })
     }
 }
 
-fn below(number: u64, count: u64) -> Option<u64>
+// The number, if it is one of so many.
+pub fn below(number: u64, count: u64) -> Option<u64>
     ensures { result ≡ (if nat_lt number count then Some number else None) }
 {
-    if number < count { Some(number) } else { None }
+    (number < count).then_some(number)
 }

@@ -1,6 +1,5 @@
 -- What a store that took a change holds: the entries, the room and the count. Assumes nothing.
-use Rattle.std.proofs.Common.{◌≡◌, ℕ, ◌+◌, ◌-◌, ◌<◌, ◌≤◌, cond, List, ◌++◌, length, take, set, is_ok, IfOk, None, Ok, Err, Option, Result, sym, refl, ◌∙◌, subst, arith}
-use Rattle.std.specs.Result.{result_err}
+use Rattle.std.proofs.Common.{◌≡◌, ℕ, ◌+◌, ◌-◌, ◌<◌, ◌≤◌, List, ◌++◌, length, take, set, Some, None, Option, refl, ◌∙◌, arith}
 use Rattle.std.proofs.lemmas.List.{get_or_append_left, get_or-set_other, get_or-take, length-take-le}
 use Rattle.std.proofs.lemmas.Bool.Decides.{nat_tests}
 use Rattle.script.specs.Allowed.{or_else}
@@ -52,15 +51,10 @@ shrunk_long rows i fine =
     let room : (i < count_of rows) × (count_of rows ≤ room_of rows) × (entry_at (room_of rows) ≤ length rows) = grind (arith, nat_tests) in
     length_removed rows i room.0 (omega arith)
 
-module _ {A : Type 0} (rows : List ℕ) {rows₁ : List ℕ} where
-  pub grows : (r : Result A Refusal) (e : Entry) → Fitting e → (result_err r ≡ None → add_fault rows ≡ None) → rows₁ ≡ cond (is_ok r) (added rows e) rows → IfOk r (λ _. Grown rows rows₁ e)
-  grows (Ok x) e fits fine is = subst (λ xs. Grown rows xs e) (sym is) (grown rows e fits (fine refl))
-  grows (Err x) e fits fine is = tt
-
-  pub shrinks : (r : Result A Refusal) (i : ℕ) → result_err r ≡ remove_fault rows i → rows₁ ≡ cond (is_ok r) (removed rows i) rows → IfOk r (λ _. Shrunk rows rows₁ i)
-  shrinks (Ok x) i fault is = subst (λ xs. Shrunk rows xs i) (sym is) (shrunk rows i (sym fault))
-  shrinks (Err x) i fault is = tt
-
 -- of two checks that both pass, the second passes
 pub second_none : (x y : Option Refusal) → or_else x y ≡ None → y ≡ None
 second_none x y e = grind arith
+
+pub or_else_assoc : (x y z : Option Refusal) → or_else (or_else x y) z ≡ or_else x (or_else y z)
+or_else_assoc None y z = refl
+or_else_assoc (Some x) y z = refl

@@ -18,8 +18,16 @@ store_fault rows =
 abbrev pub full_fault : List ℕ → Option Refusal
 full_fault rows = cond (nat_lt (count_of rows) (room_of rows)) None (Some (StoreFull (room_of rows)))
 
+-- an entry with so many askings
+abbrev pub many_fault : ℕ → Option Refusal
+many_fault n = cond (nat_lt max_askings n) (Some TooManyAskings) None
+
 abbrev pub askings_fault : List ℕ → Option Refusal
-askings_fault xs = cond (nat_lt max_askings (slice_index xs script_size)) (Some TooManyAskings) None
+askings_fault xs = many_fault (slice_index xs script_size)
+
+-- what stands in an entry from elsewhere before it is replayed: its script line by line, and then its count of askings
+abbrev pub parts_fault : List ℕ → Option Refusal
+parts_fault xs = or_else (script_fault (sources_in xs)) (askings_fault xs)
 
 abbrev pub replay_fault : List ℕ → Option Refusal
 replay_fault xs = option_map NotHonest (difference (entry_in xs))

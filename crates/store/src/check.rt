@@ -1,10 +1,11 @@
 // The checks of a store's row, and of an entry from elsewhere.
 ghost use Rattle.std.specs.Result.{result_err};
 ghost use Rattle.std.specs.Prelude.{◌≡◌, if◌then◌else◌, Some, None, nat_lt};
-ghost use Rattle.store.specs.Faults.{askings_fault, entry_fault, replay_fault, store_fault};
+ghost use Rattle.store.specs.Faults.{entry_fault, many_fault, parts_fault, replay_fault, store_fault};
 ghost use Rattle.store.specs.Rows.{entry_at};
 
-use super::layout::{COUNT_AT, ENTRIES_AT, ROOM_AT};
+use super::layout::ENTRIES_AT;
+use super::reading::{entry_count, entry_room};
 use entry::{ENTRY_SIZE, replay};
 use rows::number_after;
 use script::{MAX_ASKINGS, Refusal, SCRIPT_SIZE};
@@ -14,13 +15,13 @@ use script_checks::check_script_row;
 pub fn check_store(rows: &[u64]) -> Result<(), Refusal>
     ensures { result_err result ≡ store_fault rows.now }
 {
-    let Some(_) = rows_needed(number_after(rows, ROOM_AT, 0), rows.len()) else {
-        return Err(Refusal::StoreTooShort {
-            length: rows.len() as u64,
-        });
-    };
-    let count = number_after(rows, COUNT_AT, 0);
-    if number_after(rows, ROOM_AT, 0) < count {
+    let room = entry_room(rows);
+    let length = rows.len();
+    rows_needed(room, length).ok_or(Refusal::StoreTooShort {
+        length: length as u64,
+    })?;
+    let count = entry_count(rows);
+    if room < count {
         return Err(Refusal::StoreOverfull { count });
     }
     Ok(())
@@ -31,23 +32,32 @@ fn rows_needed(room: u64, length: usize) -> Option<usize>
     ensures { result ≡ (if nat_lt length (entry_at room) then None else Some (entry_at room)) }
 {
     let entries = (room as usize).checked_mul(ENTRY_SIZE)?;
-    let needed = entries.checked_add(ENTRIES_AT)?;
-    if needed <= length { Some(needed) } else { None }
+    entries
+        .checked_add(ENTRIES_AT)
+        .filter(|needed| *needed <= length)
 }
 
 // What importing the entry would say of the entry itself: its script line by line, its count of askings, its replay.
 pub fn check_entry(entry: &[u64]) -> Result<(), Refusal>
     ensures { result_err result ≡ entry_fault entry.now }
 {
-    check_script_row(entry)?;
-    check_asking_count(entry)?;
+    check_parts(entry)?;
     check_replay(entry)
 }
 
-pub fn check_asking_count(entry: &[u64]) -> Result<(), Refusal>
-    ensures { result_err result ≡ askings_fault entry.now }
+// What stands in the entry, without its replay.
+pub fn check_parts(entry: &[u64]) -> Result<(), Refusal>
+    ensures { result_err result ≡ parts_fault entry.now }
 {
-    if number_after(entry, SCRIPT_SIZE, 0) > MAX_ASKINGS as u64 {
+    check_script_row(entry)?;
+    check_asking_count(number_after(entry, SCRIPT_SIZE, 0))
+}
+
+// Whether an entry may have so many askings.
+pub fn check_asking_count(count: u64) -> Result<(), Refusal>
+    ensures { result_err result ≡ many_fault count }
+{
+    if count > MAX_ASKINGS as u64 {
         return Err(Refusal::TooManyAskings);
     }
     Ok(())
@@ -56,8 +66,5 @@ pub fn check_asking_count(entry: &[u64]) -> Result<(), Refusal>
 pub fn check_replay(entry: &[u64]) -> Result<(), Refusal>
     ensures { result_err result ≡ replay_fault entry.now }
 {
-    match replay(entry) {
-        Ok(()) => Ok(()),
-        Err(asking) => Err(Refusal::NotHonest { asking }),
-    }
+    replay(entry).map_err(|asking| Refusal::NotHonest { asking })
 }

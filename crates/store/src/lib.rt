@@ -9,7 +9,7 @@ mod reading;
 mod removing;
 
 pub use adding::{add_entry, admit_entry, import_entry};
-pub use check::{check_entry, check_store};
+pub use check::{check_asking_count, check_entry, check_store};
 pub use empty::empty_store;
-pub use reading::{entry_count, entry_of};
+pub use reading::{entry_count, entry_of, entry_room};
 pub use removing::remove_entry;

@@ -10,9 +10,9 @@ pub returns : goal.returns
 returns c =
     let z = c.args.size in
     let row = c.args.desks.now in
-    let found = c.in_ok-start.ensures in
+    let found = c.in_ok-span.ensures in
     let there = found.value in
-    let has = ap (λ xs. has_item xs c.args.item) (cut_out z row c.args.desk _ _ there.start there.end) ∙ there.has in
+    let has = ap (λ xs. has_item xs c.args.place.item) (cut_out z row c.args.place.desk _ _ there.start there.end) ∙ there.has in
     let allowed = c.in_ok-check_script.ensures in
     let few = (allowed.exactly.0 refl).0 in
-    record { fault = allowed.fault ∙ rw (← found.fault) refl; after = rewritten_in z row c.args.desk c.args.item c.in_ok-start.field-0 there _ (made (map counted_as c.args.lines.now)) (and_from _ _ has (le-leb _ _ few)) c.write_made.ensures }
+    record { fault = allowed.fault ∙ rw (← found.fault) refl; after = rewritten_in z row c.args.place.desk c.args.place.item c.in_ok-span.span there _ (made (map counted_as c.args.lines.now)) (and_from _ _ has (le-leb _ _ few)) c.write_made.ensures }

@@ -8,7 +8,7 @@ pub returns : goal.returns
 returns c =
     let z = c.args.size in
     let row = c.args.desks.now in
-    let found = c.in_ok-start.ensures in
+    let found = c.in_ok-span.ensures in
     let there = found.value in
-    let has = ap (λ xs. has_item xs c.args.item) (cut_out z row c.args.desk _ _ there.start there.end) ∙ there.has in
-    record { fault = found.fault; after = rewritten_in z row c.args.desk c.args.item c.in_ok-start.field-0 there _ (written c.args.value) (has) c.write_value.ensures }
+    let has = ap (λ xs. has_item xs c.args.place.item) (cut_out z row c.args.place.desk _ _ there.start there.end) ∙ there.has in
+    record { fault = found.fault; after = rewritten_in z row c.args.place.desk c.args.place.item c.in_ok-span.span there _ (written c.args.value) (has) c.write_value.ensures }

@@ -1,8 +1,8 @@
 use Rattle.std.proofs.Common.{◌*◌, ◌≤◌, mul-le-mul_left, mul-one, arith}
 use Rattle.house.proofs.desks.desk_span.Goals as goal
 
-pub overflow_sub-result : goal.overflow_sub-result
-overflow_sub-result c =
+pub overflow_sub-end : goal.overflow_sub-end
+overflow_sub-end c =
     let numbers = c.in_ok-numbers.numbers in
     let next = c.in_ok-next.ensures in
     let more : numbers * 1 ≤ numbers * c.in_ok-next.next = mul-le-mul_left numbers (omega (arith, next.1)) in

@@ -1,10 +1,7 @@
-use Rattle.std.proofs.Common.{◌≡◌, ◌-◌, ◌≤◌, replicate, vec_items}
+use Rattle.std.proofs.Common.{◌≡◌, replicate, vec_items}
 use Rattle.std.specs.List.{flat_map}
 use Rattle.house.specs.Desks.{new_desk}
 use Rattle.house.proofs.desks.new_desks.Given as goal
 
 abbrev pub invariant-loop-desk : goal.invariant-loop-desk
-invariant-loop-desk l = (vec_items l.row ≡ flat_map (λ items. new_desk items) (replicate l.desk l.size.items)) × (l.desk ≤ l.size.desks)
-
-abbrev pub decreases-loop-desk : goal.decreases-loop-desk
-decreases-loop-desk l = l.size.desks - l.desk
+invariant-loop-desk l = vec_items l.row ≡ flat_map (λ items. new_desk items) (replicate l._desk l.size.items)

@@ -17,7 +17,7 @@ behind rows ys n k e counts size is =
 pub returns : goal.returns
 returns c =
     let rows = c.args.rows.now in
-    let n = c.number_after-count.result in
+    let n = c.entry_count-count.result in
     let k = entry_at n + entry_size - entry_at n in
-    let part : length (take k (drop (entry_at n) rows)) ≡ entry_size = simp (length-take, length-drop) (omega (arith, c.requires.long, c.number_after-count.ensures)) in
-    behind rows c.write_entry.new.row n k _ c.number_after-count.ensures (omega arith) (c.write_entry.ensures.after ∙ cond-true _ _ _ (eq-eqb _ _ part))
+    let part : length (take k (drop (entry_at n) rows)) ≡ entry_size = simp (length-take, length-drop) (omega (arith, c.requires.long, c.entry_count-count.ensures)) in
+    behind rows c.write_entry.new.row n k _ c.entry_count-count.ensures (omega arith) (c.write_entry.ensures.after ∙ cond-true _ _ _ (eq-eqb _ _ part))

@@ -15,7 +15,7 @@ returns-in-Write c =
     let r = c.write_at.result in
     let told = c.write_at.ensures in
     rw c.in-Write.is (record {
-      tells = c.verdict.ensures ∙ tells_fault r _ told.fault;
+      tells = c.into.ensures ∙ tells_fault r _ told.fault;
       at_desks = leaves_fault r _ _ _ told.fault told.after;
       at_store = refl;
       at_list = refl;
@@ -30,21 +30,21 @@ returns-in-Script c =
     let fault = c.script_at.ensures.fault ∙ ap (script_at_fault z desks c.in-Script.desk c.in-Script.item) lines in
     let after = c.script_at.ensures.after ∙ ap (λ ls. cond (is_ok r) (with_desk z desks c.in-Script.desk (rewritten (desk_part z desks c.in-Script.desk) c.in-Script.item (made (map counted_as ls)))) desks) lines in
     rw c.in-Script.is (record {
-      tells = c.verdict-in-Script.ensures ∙ tells_fault r _ fault;
+      tells = c.into-in-Script.ensures ∙ tells_fault r _ fault;
       at_desks = leaves_fault r _ _ _ fault after;
       at_store = refl;
       at_list = refl;
     })
 
 pub returns-in-Build : goal.returns-in-Build
-returns-in-Build c = rw c.in-Build.is (record { answer = c.build_at.result; tells = c.answered.ensures; at_desks = refl; built = c.build_at.ensures })
+returns-in-Build c = rw c.in-Build.is (record { answer = c.build_at.result; tells = c.into-in-Build.ensures; at_desks = refl; built = c.build_at.ensures })
 
 pub returns-in-Remove : goal.returns-in-Remove
 returns-in-Remove c =
     let r = c.remove_entry.result in
     let told = c.remove_entry.ensures in
     rw c.in-Remove.is (record {
-      tells = c.verdict-in-Remove.ensures ∙ tells_fault r _ told.fault;
+      tells = c.into-in-Remove.ensures ∙ tells_fault r _ told.fault;
       at_desks = refl;
       at_store = leaves_fault r _ _ _ told.fault told.after;
       at_list = refl;
@@ -60,7 +60,7 @@ returns-in-Import c =
     let fault = c.import.ensures.fault ∙ (λ i. bring_fault rows (lines i) (askings i) v) in
     let after = c.import.ensures.after ∙ (λ i. cond (is_ok r) (added rows (entry_of (lines i) (askings i) v)) rows) in
     rw c.in-Import.is (record {
-      tells = c.verdict-in-Import.ensures ∙ tells_fault r _ fault;
+      tells = c.into-in-Import.ensures ∙ tells_fault r _ fault;
       at_desks = refl;
       at_store = leaves_fault r _ _ _ fault after;
       at_list = refl;
