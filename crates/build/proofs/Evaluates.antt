@@ -1,4 +1,4 @@
--- An item that is evaluated without being made: written, known, or open. Assumes nothing.
+-- An item that is evaluated without being made: written, or known. Assumes nothing.
 use Rattle.std.proofs.Common.{◌≡◌, ℕ, ◌<◌, ◌≤◌, ◌⊎◌, List, length, Ok, sym, ◌∙◌, ⊎_elim, arith}
 use Rattle.script.specs.Rule.{Script, Value}
 use Rattle.entry.specs.Entry.{Entry}
@@ -8,13 +8,13 @@ use Rattle.items.specs.Rows.{first_item, item_size, items_in, max_items}
 use Rattle.theory.specs.Clean.{Makes, as_written, by_script}
 use Rattle.theory.specs.Items.{Item, item, made, written}
 use Rattle.theory.proofs.Rings.{made_there}
-use Rattle.build.specs.Made.{EndsOpen, Evaluated}
+use Rattle.build.specs.Made.{Evaluated}
 use Rattle.build.specs.Scratch.{state_of}
 use Rattle.build.specs.Sound.{Known, Ready, by_entry, by_hand, by_run}
 use Rattle.build.specs.declared.scratch.Scratch.{Scratch}
 use Rattle.build.specs.declared.scratch.State.{State}
-use Rattle.build.specs.declared.scratch.State.TheVariants.{Found, Open, Ran, Unseen}
-use Rattle.build.proofs.Grows.{ended_none, went_none}
+use Rattle.build.specs.declared.scratch.State.TheVariants.{Found, Ran, Unseen}
+use Rattle.build.proofs.Grows.{went_none}
 use Rattle.build.proofs.States.{unseen_some}
 use Rattle.build.proofs.Walks.{walked_runs}
 
@@ -41,9 +41,6 @@ module _ {d : List Item} {es : List Entry} {σ : Scratch} {depth : ℕ} (ready :
   -- an entry gave the value, or a run did
   pub is_known : {v : Value} (t : State) → t ≡ state_of σ j → (t ≡ Found v) ⊎ ((row : List ℕ) × (t ≡ Ran v row)) → Evaluated d es σ j (Ok v) σ
   is_known t is known = ⊎_elim (λ e. is_found (sym is ∙ e)) (λ r. is_ran (sym is ∙ r.1)) known
-
-  pub is_open : state_of σ j ≡ Open → EndsOpen d es σ j σ
-  is_open e = (ended_none ready.sound, e)
 
   -- the depth lasts
   pub deep_enough : {s : Script} → depth ≡ 0 → item d j ≡ made s → state_of σ j ≡ Unseen → ⊥

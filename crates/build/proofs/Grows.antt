@@ -21,9 +21,6 @@ module _ {d : List Item} {es : List Entry} where
   pub went_none : {From : ℕ → Type 0} {σ : Scratch} → Sound d es σ → Went d es From σ σ
   went_none s = record { grown = record { later = record { stays = λ j seen. refl }; sound = s; new = λ j un. inl un }; closed = λ j e. e }
 
-  pub ended_none : {From : ℕ → Type 0} {σ : Scratch} → Sound d es σ → Ended d es From σ σ
-  ended_none s = record { grown = record { later = record { stays = λ j seen. refl }; sound = s; new = λ j un. inl un }; stopped = λ j e. inl e }
-
   module _ {From Next : ℕ → Type 0} (from : (j : ℕ) → Next j → From j) {σ σ₁ σ₂ : Scratch} where
     pub grown_join : Grown d es From σ σ₁ → Grown d es Next σ₁ σ₂ → Grown d es From σ σ₂
     grown_join g h = record {

@@ -14,7 +14,7 @@ use Rattle.theory.proofs.Rings.{made_there}
 use Rattle.theory.proofs.Values.{written_made}
 use Rattle.build.specs.Made.{EndsOpen, EndsWaiting, Evaluated, RecalledSo}
 use Rattle.build.specs.Scratch.{marked, state_of}
-use Rattle.build.specs.Sound.{Ended, Grown, Held, Known, Later, Looked, Ready, Settled, Sound, Waiting, Walked, Went, by_entry, by_hand, by_run}
+use Rattle.build.specs.Sound.{Grown, Known, Later, Looked, Ready, Settled, Sound, Waiting, Walked, Went, by_entry, by_hand, by_run}
 use Rattle.items.specs.declared.ring.Ring.{Ring}
 use Rattle.build.specs.declared.scratch.Scratch.{Scratch}
 use Rattle.build.specs.declared.scratch.State.{State}

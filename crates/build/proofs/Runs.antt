@@ -2,11 +2,10 @@
 use Rattle.std.proofs.Common.{◌≡◌, ℕ, List, [], ◌∷◌, ◌++◌, Ok, Result, sym, subst}
 use Rattle.std.specs.Result.{IsErr}
 use Rattle.machine.specs.Machine.{rest, start}
-use Rattle.script.specs.Rule.{Script, Task, Value, asks, done, task_of}
+use Rattle.script.specs.Rule.{Script, Task, Value, asks, task_of}
 use Rattle.machine.specs.declared.registers.Registers.{Registers}
 use Rattle.machine.proofs.Steps.{rest_start}
 use Rattle.entry.specs.Entry.{Entry}
-use Rattle.entry.specs.Rows.{askings_in}
 use Rattle.entry.specs.declared.asking.Asking.{Asking}
 use Rattle.theory.specs.Clean.{Asks, now}
 use Rattle.theory.specs.Items.{Item}
@@ -28,10 +27,6 @@ pub running_none : {d : List Item} {es : List Entry} {s : Script} {σ : Scratch}
 running_none {d} {s = s} {σ = σ} sound = record { went = went_none sound; walked = subst (λ t. Walked d σ (task_of s) [] t) (sym (rest_start s)) walked_none }
 
 module _ {d : List Item} {es : List Entry} {s : Script} {σ σ₁ : Scratch} {qs : List Asking} {g : Registers} {depth : ℕ} (ready : Ready d es σ depth) (so_far : Running d es s σ qs g σ₁) where
-  pub running_end : (a : Gave) → askings_in a.askings ≡ qs → rest s g ≡ done a.value → RanSo d es s σ (Ok a) σ₁
-  running_end a kept gives =
-      (so_far.went, subst (λ x. Walked d σ₁ (task_of s) x (done a.value)) (sym kept) (subst (λ t. Walked d σ₁ (task_of s) qs t) gives so_far.walked))
-
   module _ (k : ℕ) (c : Value → Task) (stops : rest s g ≡ asks k c) where
     waits : Walked d σ₁ (task_of s) qs (asks k c)
     waits = subst (λ t. Walked d σ₁ (task_of s) qs t) stops so_far.walked

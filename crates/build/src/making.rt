@@ -92,6 +92,7 @@ impl Scratch {
     }
 
     // Runs a script from one asking to the next, each answered with what the item comes to at the desk.
+    #[inline(always)]
     #[cycle(evaluate_make_recall_run_script_answers_agree)]
     fn run_script(&mut self, lent: Lent, depth: usize, script: &[u64]) -> Result<Gave, Ring>
         ensures { IfReady lent.entry self.old depth (λ d es. RanSo d es (script_in script.now) self.old result self.new) }

@@ -14,12 +14,12 @@ use Rattle.entry.specs.Rows.{askings_in, entry_in, first_asking}
 use Rattle.store.specs.Rows.{count_of}
 use Rattle.build.specs.Sound.{entries_of, items_of}
 use Rattle.build.specs.declared.scratch.Scratch.{Scratch}
-use Rattle.build.proofs.Evaluates.{deep_enough, is_known, is_open, is_written, made_below}
+use Rattle.build.proofs.Evaluates.{deep_enough, is_known, is_written, made_below}
 use Rattle.build.proofs.Grows.{ended_join, ready_grown, went_join}
 use Rattle.build.proofs.Makes.{made_ring, opened_ready, recalled_as, settles_found, settles_ran}
 use Rattle.build.proofs.Parts.{more_pieces, no_more_pieces, piece_there}
 use Rattle.build.proofs.Recalls.{Recalling, agreed_as, recalling_agrees, recalling_differs, recalling_end, recalling_none, recalling_other, recalling_ring}
-use Rattle.build.proofs.Runs.{Running, running_end, running_more, running_none, running_ring}
+use Rattle.build.proofs.Runs.{Running, running_more, running_none, running_ring}
 use Rattle.build.proofs.Tests.{asked_parts, asking_there, trying_differs, trying_end, trying_more, trying_none, trying_ring}
 use Rattle.build.proofs.scratch.Scratch.+evaluate_make_recall_run_script_answers_agree.Goals as goal
 use Rattle.build.proofs.scratch.Scratch.+evaluate_make_recall_run_script_answers_agree.Goals.{recall-else-same_script-via-then-same_script+in_ok-answers_agree+else-branch, recall-else-same_script-via-else-same_script}
