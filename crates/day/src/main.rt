@@ -1,7 +1,7 @@
 // Performs days of commands from files, and prints what came of them.
 #![tactic(auto)]
 
-use anyhow::anyhow;
+use anyhow::Context;
 use report::day_text;
 use std::process::ExitCode;
 use std::{env, fs};
@@ -19,9 +19,7 @@ fn main(rt: HostRuntime) -> ExitCode {
 fn run(rt: &HostRuntime) -> anyhow::Result<()> {
     let mut arguments = env::args(rt)?;
     let _program = arguments.next();
-    let Some(first) = arguments.next() else {
-        return Err(anyhow!("usage: day FILE.."));
-    };
+    let first = arguments.next().context("usage: day FILE..")?;
     print_day(rt, first.as_str())?;
     for path in arguments {
         print_day(rt, path.as_str())?;
@@ -31,12 +29,8 @@ fn run(rt: &HostRuntime) -> anyhow::Result<()> {
 
 // Each file is a day of its own, in a house of its own.
 fn print_day(rt: &HostRuntime, path: &str) -> anyhow::Result<()> {
-    let Ok(bytes) = fs::read(rt, path) else {
-        return Err(anyhow!(format!(in rt.alloc(); "cannot read {path}")?));
-    };
-    let Ok(text) = day_text(rt.alloc(), bytes.as_slice()) else {
-        return Err(anyhow!("out of memory"));
-    };
+    let bytes = fs::read(rt, path).context(format_args!("cannot read {path}"))?;
+    let text = day_text(rt.alloc(), bytes.as_slice()).context("out of memory")?;
     print!(rt; "{text}")?;
     Ok(())
 }
