@@ -2,19 +2,14 @@
 #![tactic(auto)]
 
 use anyhow::{Context, bail};
+use program::exit_code;
 use std::process::ExitCode;
 use std::{env, fs};
 use store::{check_entry, check_store, entry_count, entry_of};
 use storefile::{StoreFileError, read_store};
 
 fn main(rt: HostRuntime) -> ExitCode {
-    match run(&rt) {
-        Ok(()) => ExitCode::SUCCESS,
-        Err(error) => {
-            let _ = eprintln!(rt; "check_store: {error}");
-            ExitCode::FAILURE
-        }
-    }
+    exit_code(&rt, "check_store", run(&rt))
 }
 
 fn run(rt: &HostRuntime) -> anyhow::Result<()> {

@@ -2,18 +2,13 @@
 #![tactic(auto)]
 
 use anyhow::Context;
+use program::exit_code;
 use report::day_text;
 use std::process::ExitCode;
 use std::{env, fs};
 
 fn main(rt: HostRuntime) -> ExitCode {
-    match run(&rt) {
-        Ok(()) => ExitCode::SUCCESS,
-        Err(error) => {
-            let _ = eprintln!(rt; "day: {error}");
-            ExitCode::FAILURE
-        }
-    }
+    exit_code(&rt, "day", run(&rt))
 }
 
 fn run(rt: &HostRuntime) -> anyhow::Result<()> {

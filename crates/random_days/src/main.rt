@@ -20,18 +20,13 @@ mod watched;
 
 use anyhow::anyhow;
 use days::{Wrong, run_day};
+use program::exit_code;
 use std::env;
 use std::process::ExitCode;
 use tally::Tally;
 
 fn main(rt: HostRuntime) -> ExitCode {
-    match run(&rt) {
-        Ok(()) => ExitCode::SUCCESS,
-        Err(error) => {
-            let _ = eprintln!(rt; "random_days: {error}");
-            ExitCode::FAILURE
-        }
-    }
+    exit_code(&rt, "random_days", run(&rt))
 }
 
 fn run(rt: &HostRuntime) -> anyhow::Result<()> {
