@@ -22,7 +22,9 @@ pub fn find_item(size: HouseSize, desks: &[u64], place: Place) -> Result<Range<u
     ensures value { Found size desks.now place.desk place.item result }
 {
     let Place { desk, item } = place;
-    let span = desk_span(size, desks.len(), desk).ok_or(Refusal::NoSuchDesk { desk })?;
+    let Some(span) = desk_span(size, desks.len(), desk) else {
+        return Err(Refusal::NoSuchDesk { desk });
+    };
     if !has_item(&desks[span.start..span.end], item) {
         return Err(Refusal::NoSuchItem { item });
     }

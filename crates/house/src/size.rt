@@ -27,8 +27,12 @@ impl HouseSize {
         ensures fault { result_err result ≡ place_fault self desk item }
         ensures value { IfOk result (λ place. (place.desk ≡ desk) × (place.item ≡ item)) }
     {
-        let desk = below(desk, self.desks).ok_or(Refusal::NoSuchDesk { desk })?;
-        let item = below(item, self.items).ok_or(Refusal::NoSuchItem { item })?;
+        let Some(desk) = below(desk, self.desks) else {
+            return Err(Refusal::NoSuchDesk { desk });
+        };
+        let Some(item) = below(item, self.items) else {
+            return Err(Refusal::NoSuchItem { item });
+        };
         Ok(Place { desk, item })
     }
 }

@@ -55,9 +55,10 @@ fn check_room(rows: &[u64]) -> Result<(), Refusal>
     ensures { result_err result ≡ full_fault rows.now }
 {
     let room = entry_room(rows);
-    (entry_count(rows) < room)
-        .then_some(())
-        .ok_or(Refusal::StoreFull { room })
+    if entry_count(rows) < room {
+        return Ok(());
+    }
+    Err(Refusal::StoreFull { room })
 }
 
 // Writes the entry into the part of the row behind those that are kept.

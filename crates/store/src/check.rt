@@ -17,9 +17,11 @@ pub fn check_store(rows: &[u64]) -> Result<(), Refusal>
 {
     let room = entry_room(rows);
     let length = rows.len();
-    rows_needed(room, length).ok_or(Refusal::StoreTooShort {
-        length: length as u64,
-    })?;
+    let Some(_) = rows_needed(room, length) else {
+        return Err(Refusal::StoreTooShort {
+            length: length as u64,
+        });
+    };
     let count = entry_count(rows);
     if room < count {
         return Err(Refusal::StoreOverfull { count });

@@ -7,7 +7,7 @@ pub returns-then-not-has_item : goal.returns-then-not-has_item
 returns-then-not-has_item c =
     let z = c.args.size in
     let row = c.args.desks.now in
-    let at = spanned z row c.args.place.desk c.in_ok-span.span (sym c.in_ok-span.ensures.ok_part ∙ c.desk_span.ensures) in
+    let at = spanned z row c.args.place.desk c.in-Some.span c.in-Some.ensures in
     let missing = ap (λ xs. has_item xs c.args.place.item) (sym (cut_out z row c.args.place.desk _ _ at.1 at.2)) ∙ sym c.if-not-has_item.ensures in
     record { fault = no_item z row c.args.place.desk c.args.place.item at.0 missing; value = tt }
 
@@ -15,7 +15,7 @@ pub returns : goal.returns
 returns c =
     let z = c.args.size in
     let row = c.args.desks.now in
-    let at = spanned z row c.args.place.desk c.in_ok-span.span (sym c.in_ok-span.ensures.ok_part ∙ c.desk_span.ensures) in
+    let at = spanned z row c.args.place.desk c.in-Some.span c.in-Some.ensures in
     let has = ap (λ xs. has_item xs c.args.place.item) (sym (cut_out z row c.args.place.desk _ _ at.1 at.2)) ∙ sym c.if-not-has_item.ensures in
     record {
       fault = both_there z row c.args.place.desk c.args.place.item at.0 has;
