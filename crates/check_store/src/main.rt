@@ -24,9 +24,7 @@ fn run(rt: &HostRuntime) -> anyhow::Result<()> {
 
 fn print_store(rt: &HostRuntime, rows: &[u64]) -> anyhow::Result<()> {
     if let Err(refusal) = check_store(rows) {
-        let number = refusal.number();
-        let place = refusal.place();
-        println!(rt; "store refused {number} at {place}")?;
+        println!(rt; "store {refusal}")?;
         return Ok(());
     }
     let count = entry_count(rows);
@@ -37,11 +35,7 @@ fn print_store(rt: &HostRuntime, rows: &[u64]) -> anyhow::Result<()> {
                 println!(rt; "entry {index} honest")?;
                 honest += 1;
             }
-            Err(refusal) => {
-                let number = refusal.number();
-                let place = refusal.place();
-                println!(rt; "entry {index} refused {number} at {place}")?;
-            }
+            Err(refusal) => println!(rt; "entry {index} {refusal}")?,
         }
     }
     println!(rt; "{honest} of {count} honest")?;

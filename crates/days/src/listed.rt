@@ -31,7 +31,5 @@ fn list_of(heap: Global, ran: &[u64]) -> Result<Vec<u64>, AllocError>
     ensures { IfOk result (λ list. list.items ≡ list_in ran.now) }
 {
     let count = number_after(ran, 0, 0);
-    let mut list = Vec::new(heap);
-    list.extend_from_slice(front(tail(ran, 1), count as usize))?;
-    Ok(list)
+    Vec::from_slice(heap, front(tail(ran, 1), count as usize))
 }

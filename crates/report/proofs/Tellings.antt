@@ -1,6 +1,6 @@
 -- The lines of a day, one command after the other. Assumes nothing.
-use Rattle.std.proofs.Common.{◌≡◌, ℕ, ◌+◌, ◌<◌, ◌≤◌, List, [], ◌∷◌, ◌++◌, map, length, get_or, drop, sym, refl, ap, ◌∙◌, add-one}
-use Rattle.std.proofs.lemmas.List.{append_assoc, append-nil, drop_all, drop_more}
+use Rattle.std.proofs.Common.{◌≡◌, ℕ, ◌+◌, List, [], ◌∷◌, ◌++◌, map, length, sym, refl, ap, ◌∙◌, add-one}
+use Rattle.std.proofs.lemmas.List.{append_assoc, append-nil, nil_from_length}
 use Rattle.house.specs.Deeds.{Deed, deed_of}
 use Rattle.house.specs.declared.command.Command.{Command}
 use Rattle.days.specs.Goes.{Told}
@@ -8,33 +8,32 @@ use Rattle.days.specs.Outcomes.{told_as}
 use Rattle.days.specs.declared.outcome.Outcome.{Outcome}
 use Rattle.report.specs.Text.{told_text, tolds_text}
 
--- what is still to be told from command i on
+-- what is told of these commands and outcomes, of which the first has number n in the file
 abbrev pub still : ℕ → List Command → List Outcome → List ℕ
-still i cs os = tolds_text i (map deed_of (drop i cs)) (map told_as (drop i os))
+still n cs os = tolds_text n (map deed_of cs) (map told_as os)
 
-no_outcomes : (i : ℕ) (ds : List Deed) → tolds_text i ds [] ≡ []
+no_outcomes : (n : ℕ) (ds : List Deed) → tolds_text n ds [] ≡ []
 unfolding tolds_text
-no_outcomes i [] = refl
-no_outcomes i (d ∷ ds) = refl
+no_outcomes n [] = refl
+no_outcomes n (d ∷ ds) = refl
 
-no_commands : (i : ℕ) (ts : List Told) → tolds_text i [] ts ≡ []
+no_commands : (n : ℕ) (ts : List Told) → tolds_text n [] ts ≡ []
 unfolding tolds_text
-no_commands i ts = refl
+no_commands n ts = refl
 
 -- behind the last command or the last outcome nothing is told
-pub none_left : (i : ℕ) (cs : List Command) (os : List Outcome) → length cs ≤ i → still i cs os ≡ []
-none_left i cs os past = ap (λ xs. tolds_text i (map deed_of xs) (map told_as (drop i os))) (drop_all i cs past) ∙ no_commands i (map told_as (drop i os))
+pub none_left : (n : ℕ) (cs : List Command) (os : List Outcome) → length cs ≡ 0 → still n cs os ≡ []
+none_left n cs os none = ap (λ xs. still n xs os) (nil_from_length cs none) ∙ no_commands n (map told_as os)
 
-pub none_told : (i : ℕ) (cs : List Command) (os : List Outcome) → length os ≤ i → still i cs os ≡ []
-none_told i cs os past = ap (λ xs. tolds_text i (map deed_of (drop i cs)) (map told_as xs)) (drop_all i os past) ∙ no_outcomes i (map deed_of (drop i cs))
+pub none_told : (n : ℕ) (cs : List Command) (os : List Outcome) → length os ≡ 0 → still n cs os ≡ []
+none_told n cs os none = ap (λ xs. still n cs xs) (nil_from_length os none) ∙ no_outcomes n (map deed_of cs)
 
-pub one_told : (i : ℕ) (cs : List Command) (os : List Outcome) (c : Command) (o : Outcome) → i < length cs → i < length os → c ≡ get_or cs i c → o ≡ get_or os i o → still i cs os ≡ told_text i (deed_of c) (told_as o) ++ still (i + 1) cs os
+first_told : (n : ℕ) (c : Command) (cs : List Command) (o : Outcome) (os : List Outcome) → still n (c ∷ cs) (o ∷ os) ≡ told_text n (deed_of c) (told_as o) ++ still (n + 1) cs os
 unfolding tolds_text
-one_told i cs os c o in-cs in-os is_c is_o =
-    let at_c : drop i cs ≡ c ∷ drop (i + 1) cs = drop_more cs i c in-cs ∙ ap (λ x. x ∷ drop (i + 1) cs) (sym is_c) in
-    let at_o : drop i os ≡ o ∷ drop (i + 1) os = drop_more os i o in-os ∙ ap (λ x. x ∷ drop (i + 1) os) (sym is_o) in
-    (λ j. tolds_text i (map deed_of (at_c j)) (map told_as (at_o j)))
-    ∙ ap (λ n. told_text i (deed_of c) (told_as o) ++ tolds_text n (map deed_of (drop (i + 1) cs)) (map told_as (drop (i + 1) os))) (sym (add-one i))
+first_told n c cs o os = ap (λ m. told_text n (deed_of c) (told_as o) ++ still m cs os) (sym (add-one n))
+
+pub one_told : (n : ℕ) (c : Command) (o : Outcome) {n₁ : ℕ} {cs cs₁ : List Command} {os os₁ : List Outcome} → cs ≡ c ∷ cs₁ → os ≡ o ∷ os₁ → n₁ ≡ n + 1 → still n cs os ≡ told_text n (deed_of c) (told_as o) ++ still n₁ cs₁ os₁
+one_told n c o {cs₁} {os₁} of_c of_o next = (λ j. still n (of_c j) (of_o j)) ∙ first_told n c cs₁ o os₁ ∙ ap (λ m. told_text n (deed_of c) (told_as o) ++ still m cs₁ os₁) (sym next)
 
 -- the text with one line more
 pub one_more : (text line more whole : List ℕ) {text₁ rest : List ℕ} → text₁ ≡ text ++ line → rest ≡ line ++ more → text ++ rest ≡ whole → text₁ ++ more ≡ whole

@@ -1,7 +1,7 @@
 -- What is printed of a day. Assumes nothing: these are definitions.
 use Rattle.std.specs.Prelude.{◌≡◌, ℕ, suc, Bool, true, false, List, [], ◌∷◌, ◌++◌, map, length, Some, None, vec_items, codes, decimal, Option}
 use Rattle.std.specs.List.{flat_map}
-use Rattle.script.specs.Refusals.{number_of, place_of}
+use Rattle.script.specs.Refusals.{refused_text}
 use Rattle.script.specs.declared.refusal.Refusal.{Refusal}
 use Rattle.theory.specs.Clean.{Out, ring, value}
 use Rattle.house.specs.Deeds.{Deed, bring, build, deed_of, forget, give, write}
@@ -16,12 +16,9 @@ use Rattle.dayfile.specs.Format.{head_bytes, head_in}
 abbrev pub line_end : List ℕ
 line_end = 10 ∷ []
 
--- the command's number in the file, the number of the refusal, and its place
-abbrev pub numbered_text : ℕ → ℕ → ℕ → List ℕ
-numbered_text deed number place = codes "deed " ++ (decimal deed ++ (codes " refused " ++ (decimal number ++ (codes " at " ++ (decimal place ++ line_end)))))
-
+-- the command's number in the file, and why it is refused
 abbrev pub refusal_text : ℕ → Refusal → List ℕ
-refusal_text n f = numbered_text n (number_of f) (place_of f)
+refusal_text n f = codes "deed " ++ (decimal n ++ (codes " " ++ (refused_text f ++ line_end)))
 
 abbrev pub item_text : ℕ → List ℕ
 item_text j = codes " " ++ decimal j

@@ -14,23 +14,7 @@ use std::alloc::{AllocError, Global};
 pub fn refusal_line(heap: Global, deed: usize, refusal: Refusal) -> Result<String, AllocError>
     ensures { IfOk result (λ line. string_bytes line ≡ refusal_text deed refusal) }
 {
-    let number = refusal.number();
-    let place = refusal.place();
-    format!(in heap; "deed {deed} refused {number} at {place}\n")
-}
-
-// The line of a build that came to a value, up to its list.
-fn value_opening(heap: Global, desk: u64, item: u64, number: u64) -> Result<String, AllocError>
-    ensures { IfOk result (λ line. string_bytes line ≡ opening_text desk item (value number)) }
-{
-    format!(in heap; "build {desk} {item} value {number} ran")
-}
-
-// The line of a build that ended in a ring, up to its list.
-fn ring_opening(heap: Global, desk: u64, item: u64) -> Result<String, AllocError>
-    ensures { IfOk result (λ line. string_bytes line ≡ opening_text desk item ring) }
-{
-    format!(in heap; "build {desk} {item} ring ran")
+    format!(in heap; "deed {deed} {refusal}\n")
 }
 
 // The line goes on with the list, and ends.
@@ -56,11 +40,11 @@ pub fn outcome_line(
     match (command, outcome) {
         (_, Outcome::Refused(refusal)) => refusal_line(heap, deed, *refusal),
         (Command::Build { desk, item }, Outcome::Value { value, ran }) => {
-            let opening = value_opening(heap, *desk, *item, *value)?;
+            let opening = format!(in heap; "build {desk} {item} value {value} ran")?;
             with_list(heap, opening, ran.as_slice())
         }
         (Command::Build { desk, item }, Outcome::Ring { ran }) => {
-            let opening = ring_opening(heap, *desk, *item)?;
+            let opening = format!(in heap; "build {desk} {item} ring ran")?;
             with_list(heap, opening, ran.as_slice())
         }
         // A command that is done prints nothing, and only builds tell an answer.

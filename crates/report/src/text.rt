@@ -52,11 +52,8 @@ fn outcomes_text(
     ensures { IfOk result (λ text. string_bytes text ≡ tolds_text 0 (map deed_of commands.now) (map told_as outcomes.now)) }
 {
     let mut text = String::new(heap);
-    for (deed, command) in commands.iter().enumerate() {
-        if deed >= outcomes.len() {
-            break;
-        }
-        let line = outcome_line(heap, deed, command, &outcomes[deed])?;
+    for (deed, (command, outcome)) in commands.iter().zip(outcomes).enumerate() {
+        let line = outcome_line(heap, deed, command, outcome)?;
         text.push_str(line.as_str())?;
     }
     Ok(text)
