@@ -25,10 +25,17 @@ impl Asking {
         }
     }
 
+    // What stands for it in a row.
+    pub fn numbers(self) -> [u64; ASKING_SIZE]
+        ensures { result ≡ asking_out self }
+    {
+        [self.item, self.answer]
+    }
+
     pub fn write(self, row: &mut [u64], at: usize)
         ensures { row.new ≡ written_at row.old at (asking_out self) }
     {
-        put_all(row, at, &[self.item, self.answer]);
+        put_all(row, at, &self.numbers());
     }
 }
 

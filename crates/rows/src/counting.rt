@@ -1,0 +1,26 @@
+// Writing a counted list into a row.
+ghost use Rattle.std.specs.List.{flat_map};
+ghost use Rattle.std.specs.Prelude.{◌≡◌, ℕ, ◌+◌, ◌*◌, ◌<◌, ◌≤◌, List, ◌∷◌, length};
+ghost use Rattle.rows.specs.Rows.{Gives, padded};
+
+use super::{clear_from, put_all};
+use std::convert::AsSlice;
+
+// Writes a counted list into a row: how many there are, their numbers one behind the other, and 0 behind them.
+// `numbers` gives those of each, as many as `size` says.
+pub fn put_counted<P: AsSlice<u64> + Copy, F: Fn(usize) -> P>(
+    row: &mut [u64],
+    size: usize,
+    count: usize,
+    numbers: F,
+)
+    requires can { (index : ℕ) → index < count → F.pre numbers index }
+    requires room { 1 + size * count ≤ length row.old }
+    ensures { (pieces : List P) → Gives P.items (F.post numbers) size count pieces → row.new ≡ padded (length row.old) (count ∷ flat_map P.items pieces) }
+{
+    put_all(row, 0, &[count as u64]);
+    for index in 0..count {
+        put_all(row, 1 + size * index, numbers(index).as_slice());
+    }
+    clear_from(row, 1 + size * count);
+}
