@@ -19,7 +19,7 @@ pub fn perform_all(
 ) -> Result<Vec<Outcome>, AllocError>
     ensures { Listed size (map deed_of commands.now) desks.old rows.old ran.old result desks.new rows.new ran.new }
 {
-    // No chain: its closure would hold all three lent rows, and where memory is short the promise tells how each of them stands.
+    // Not a chain with `try_collect`: no proved fact of it says how the rows stand that its closure holds.
     let mut outcomes = Vec::new(heap);
     for command in commands.iter() {
         let told = command.perform(size, desks, rows, ran);
