@@ -1,7 +1,7 @@
 // What a build says of an item.
 use items::Ring;
 
-// An item has a value, or it is needed for itself on the way to one.
+// An item has a value, or it is needed for itself on the way to one. An enum and no Result, as the rules have it: ring is an answer, and no failure of the build.
 #[derive(Clone, Copy, PartialEq, Debug)]
 pub enum CleanAnswer {
     Value(u64),

@@ -14,7 +14,7 @@ use rows::{number_after, tail};
 use runner::{Step, run};
 use script::SCRIPT_SIZE;
 
-// Otherwise it says which asking first differs from the replay, or how many askings there are.
+// Otherwise it says which asking first differs from the replay, or how many askings there are: the error is that number, and no code.
 pub fn replay(entry: &[u64]) -> Result<(), u64>
     ensures place { result_err result ≡ difference (entry_in entry.now) }
     ensures exactly { Decides (is_ok result) (Honest (entry_in entry.now)) }

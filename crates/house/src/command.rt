@@ -3,6 +3,7 @@ use entry::Asking;
 use script::SourceLine;
 
 // Lines and askings are as they came from outside: whether they are allowed is checked when the command is performed.
+// Desk and item stand side by side, and not as a `Place`, since files and other languages hand over single numbers.
 #[derive(Drop)]
 pub enum Command {
     Write {

@@ -45,7 +45,7 @@ impl From<Answer> for Told {
 }
 
 impl Command {
-    // The desks, the store and the list are lent rows; a refusal leaves all three as they were.
+    // The desks, the store and the list are lent rows, and three of them, since other languages lend them so; a refusal leaves all three as they were.
     pub fn perform(
         &self,
         size: HouseSize,
@@ -68,6 +68,7 @@ impl Command {
                 build_at(size, desks, rows, ran, Place { desk, item }).into()
             }
             Command::Remove { entry } => remove_entry(rows, entry).into(),
+            // All by reference: of a number that is copied beside two references the check does not know that it is the command's.
             Command::Import {
                 ref lines,
                 ref askings,

@@ -40,7 +40,7 @@ pub fn item_count(items: &[u64]) -> usize
     count.min(MAX_ITEMS)
 }
 
-// An item whose number is not there counts as written with 0.
+// An item whose number is not there counts as written with 0. The row and the number stay two parameters here and in `writing`, since rows are lent as they are.
 pub fn item_of(items: &[u64], item: u64) -> Item<'_>
     ensures { ReadsItem (items_in items.now) item result }
 {

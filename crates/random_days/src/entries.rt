@@ -18,6 +18,7 @@ pub fn record_run(view: View<'_>, seed: Seed, row: &mut [u64]) {
     view.pool
         .write_script(seed.at(0).below(view.pool.scripts), row);
     let mut registers = Registers::new();
+    // By its number, which is counted in the row and by which each answer is drawn.
     for index in 0..MAX_ASKINGS {
         let Step::Asks { item, waiting } = run(row, registers) else {
             break;

@@ -32,6 +32,7 @@ impl Pool {
         let seed = self.seed.at(number);
         let count = draw_count(seed);
         put_all(row, 0, &[count]);
+        // By its number, which each line is drawn by, and of which the last is another.
         for index in 0..count {
             let line = if index.saturating_add(1) == count {
                 Line::Give {

@@ -8,6 +8,7 @@ use super::layout::{LAST_KIND, MAX_SKIP, REGISTERS};
 use super::line::{Line, numbers_at};
 use super::refusal::Refusal;
 
+// An enum and no Result: a line of an unknown kind is kept as it is until it is checked, and is no failure yet.
 #[derive(Clone, Copy, PartialEq, Debug)]
 pub enum SourceLine {
     Known(Line),

@@ -9,7 +9,7 @@ use script::{LAST_KIND, LINE_SIZE, Line};
 // The kinds from this on use three numbers, except the last, which uses one; those below it use two.
 const FIRST_OF_THREE: u64 = 3;
 
-// Line for line, as they are read. By places: over the parts of both rows, with `zip` and `all`, looking for an entry took half as long again.
+// Line for line, as they are read. By places: over the parts of both rows, with `zip` and `all`, a build took up to half as long again.
 pub fn same_script(left: &[u64], right: &[u64]) -> bool
     ensures { Decides result (script_in left.now ≡ script_in right.now) }
 {

@@ -12,7 +12,8 @@ use entry::{ENTRY_SIZE, RESULT_AT, write_entry};
 use rows::{number_after, tail};
 use script::{Refusal, SCRIPT_SIZE};
 
-// Adds what one run left: its script and its askings, each in a row, and its result.
+// Adds what one run left: its script and its askings, each in a row, and its result. The three come from three places, and a struct of them
+// would be made for this call alone and taken apart in the next.
 pub fn add_entry(
     rows: &mut [u64],
     script: &[u64],

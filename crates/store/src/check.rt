@@ -47,7 +47,7 @@ pub fn check_entry(entry: &[u64]) -> Result<(), Refusal>
     check_replay(entry)
 }
 
-// What stands in the entry, without its replay.
+// What stands in the entry, without its replay. Crate `house` has the same of lines and askings that are in no row; what both ask stands once, below and in `script_checks`.
 pub fn check_parts(entry: &[u64]) -> Result<(), Refusal>
     ensures { result_err result ≡ parts_fault entry.now }
 {
