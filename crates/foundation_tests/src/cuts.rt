@@ -60,7 +60,7 @@ fn cut_behind_the_head(rt: HostRuntime) -> Result<(), Fail> {
         let (count, end) = whole(length);
         let day = read_day(rt.alloc(), &bytes[..length])?;
         assert_eq!(rt; day.commands.len(), count, "{length} bytes");
-        let stopped = day.stopped.map(numbers_of);
+        let stopped = day.stopped.map(|refusal| numbers_of(refusal));
         let expected = if length == end {
             None
         } else {

@@ -118,7 +118,11 @@ fn an_unknown_kind_ends_the_reading(rt: HostRuntime) -> Result<(), Fail> {
     for kind in KINDS {
         let day = read_day(rt.alloc(), &[1, 1, 0, 2, 0, 0, kind, 0, 0, 2, 0, 0])?;
         assert_eq!(rt; day.commands.len(), 1);
-        assert_eq!(rt; day.stopped.map(numbers_of), Some((1, 6)), "kind {kind}");
+        assert_eq!(rt;
+            day.stopped.map(|refusal| numbers_of(refusal)),
+            Some((1, 6)),
+            "kind {kind}"
+        );
     }
     Ok(())
 }
