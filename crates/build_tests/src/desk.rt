@@ -24,12 +24,12 @@ pub struct DeskInUse {
 }
 
 impl DeskInUse {
-    // So many items, each written with 0, and an empty store with room for so many entries.
-    pub fn new(heap: Global, items: u64, room: u64) -> Result<DeskInUse, AllocError> {
+    // So many items, each written with 0, an empty store with room for so many entries, and a list that holds this number everywhere.
+    pub fn new(heap: Global, items: u64, room: u64, blank: u64) -> Result<DeskInUse, AllocError> {
         Ok(DeskInUse {
             desk: Desk::new(heap, items)?,
             rows: empty_store(heap, room)?,
-            ran: vec![in heap; 77; (items as usize).saturating_add(1)]?,
+            ran: vec![in heap; blank; (items as usize).saturating_add(1)]?,
         })
     }
 

@@ -9,7 +9,7 @@ use std::test::Fail;
 
 // A desk of two items, of which the second asks for the first, with room for two entries.
 fn desk(heap: Global) -> Result<DeskInUse, AllocError> {
-    let mut used = DeskInUse::new(heap, 2, 2)?;
+    let mut used = DeskInUse::new(heap, 2, 2, 5)?;
     used.desk.give(1, &[[0, 0, 0, 0], [5, 0, 0, 0]]);
     Ok(used)
 }

@@ -19,7 +19,7 @@ const SUM_0_1: &[[u64; 4]] = &[[0, 0, 0, 0], [0, 1, 1, 0], [3, 2, 0, 1], [5, 2, 
 const SUM_1_2: &[[u64; 4]] = &[[0, 0, 1, 0], [0, 1, 2, 0], [3, 2, 0, 1], [5, 2, 0, 0]];
 
 fn check_day(rt: &impl Abort, heap: Global, deeds: &[Deed]) -> Result<(), Fail> {
-    let mut used = DeskInUse::new(heap, 4, 4)?;
+    let mut used = DeskInUse::new(heap, 4, 4, 0)?;
     used.spend_day(rt, deeds);
     Ok(())
 }

@@ -8,7 +8,7 @@ use test_rows::first_numbers;
 
 // Each item but the last asks twice for the next one and gives the sum; there is room for 256 entries.
 fn chain(heap: Global) -> Result<DeskInUse, AllocError> {
-    let mut used = DeskInUse::new(heap, MAX_ITEMS as u64, MAX_ITEMS as u64)?;
+    let mut used = DeskInUse::new(heap, MAX_ITEMS as u64, MAX_ITEMS as u64, 0)?;
     for item in 0..MAX_ITEMS - 1 {
         let next = item as u64 + 1;
         used.desk.give(

@@ -20,7 +20,7 @@ const DAY: [Deed; 12] = [
 ];
 
 fn desk(heap: Global) -> Result<DeskInUse, AllocError> {
-    let mut used = DeskInUse::new(heap, 8, 4)?;
+    let mut used = DeskInUse::new(heap, 8, 4, 77)?;
     used.desk.write(0, 5);
     used.desk.write(1, 3);
     used.desk.give(2, &[[0, 0, 0, 0], [0, 1, 1, 0], [3, 2, 0, 1], [5, 2, 0, 0]]);

@@ -1,6 +1,7 @@
 // A house as tests use it: it is given drafts of commands, and its rows are compared.
+ghost use Rattle.house.specs.New.{NewHouse};
 ghost use Rattle.house_tests.specs.Told.{told_as_numbers};
-ghost use Rattle.std.specs.Prelude.{◌≡◌, Decides};
+ghost use Rattle.std.specs.Prelude.{◌≡◌, Decides, IfOk};
 
 use super::draft::Draft;
 use house::{House, HouseSize, Told};
@@ -14,7 +15,9 @@ pub struct TestedHouse {
 }
 
 impl TestedHouse {
-    pub fn new(heap: Global, size: HouseSize) -> Result<TestedHouse, AllocError> {
+    pub fn new(heap: Global, size: HouseSize) -> Result<TestedHouse, AllocError>
+        ensures { IfOk result (λ tested. NewHouse size tested.house) }
+    {
         Ok(TestedHouse {
             heap,
             house: House::new(heap, size)?,
