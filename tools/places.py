@@ -55,6 +55,13 @@ def clauses(text):
     return re.findall(r"\n\s*(?:requires|ensures)(?: \w+)? \{ (.*) \}", text)
 
 
+def shared(groups):
+    """What stands in three functions or more, most shared first."""
+    for what, places in sorted(groups.items(), key=lambda group: -len(group[1])):
+        if len(places) >= 3:
+            yield f"{len(places)} functions", what
+
+
 def point_1():
     print("-- enums, of which some have the shape of Option or Result")
     yield from found(r"^(pub )?enum ")
@@ -110,9 +117,7 @@ def point_5():
         for clause in clauses(text):
             for fact in re.split(r" → | × ", clause):
                 facts[re.sub(r"\b(old|new|now|entry)\b", "_", fact)].add(f"{place} {name}")
-    for fact, places in sorted(facts.items(), key=lambda f: -len(f[1])):
-        if len(places) >= 3 and len(fact) > 12:
-            yield f"{len(places)} functions", fact
+    yield from shared({fact: places for fact, places in facts.items() if len(fact) > 12})
     print("-- parameters that travel together through three functions or more (three of them, or two)")
     groups = defaultdict(list)
     for place, name, text in functions():
@@ -120,9 +125,7 @@ def point_5():
         for size in (3, 2):
             for at in range(len(given) - size + 1):
                 groups[", ".join(given[at:at + size])].append(f"{place} {name}")
-    for group, places in sorted(groups.items(), key=lambda g: -len(g[1])):
-        if len(places) >= 3:
-            yield f"{len(places)} functions", group
+    yield from shared(groups)
 
 
 def point_6():
