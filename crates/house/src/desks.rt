@@ -35,7 +35,8 @@ pub fn new_desks(heap: Global, size: HouseSize) -> Result<Vec<u64>, AllocError>
 fn push_desk(row: &mut Vec<u64>, items: u64) -> Result<(), AllocError>
     ensures { OnOk result (row.new.items ≡ row.old.items ++ new_desk items) }
 {
+    // Told at once: a row that is asked to grow by more than there can be takes all the memory there is before it gives up.
+    let numbers = ITEM_SIZE.checked_mul(items as usize).ok_or(AllocError)?;
     row.push(items)?;
-    // A count that does not fit its type is more than any row can have, and so is what is asked for in its place.
-    push_zeros(row, ITEM_SIZE.saturating_mul(items as usize))
+    push_zeros(row, numbers)
 }

@@ -1,8 +1,10 @@
 // What is just allowed, and a house with no room.
 use super::days::{Step, check_day};
 use super::draft::Draft;
-use super::scripts::SUM;
-use house::{HouseSize, Told};
+use super::lent_house::TestedHouse;
+use super::scripts::{SUM, TWICE};
+use house::{HouseSize, Told, new_desks};
+use rows::tail;
 use script::Refusal;
 use std::test::Fail;
 
@@ -68,4 +70,39 @@ fn up_to_the_limits(rt: HostRuntime) -> Result<(), Fail> {
 #[test]
 fn a_house_of_no_room(rt: HostRuntime) -> Result<(), Fail> {
     check_day(&rt, rt.alloc(), NO_ROOM, &NOTHING_KEPT)
+}
+
+// A row of more numbers than can be counted is refused before any memory is taken.
+#[test]
+fn a_house_that_cannot_be_counted(rt: HostRuntime) -> Result<(), Fail> {
+    let size = HouseSize {
+        desks: 1,
+        items: u64::MAX,
+        room: 0,
+    };
+    assert!(rt; new_desks(rt.alloc(), size).is_err());
+    Ok(())
+}
+
+// One command of each kind, of which the build runs item 1, and then one that is refused.
+static ALL_KINDS: [Draft; 6] = [
+    Draft::Write(0, 0, 5),
+    Draft::Script(0, 1, &TWICE),
+    Draft::Build(0, 1),
+    Draft::Remove(0),
+    Draft::Import(&LONGEST, &MOST_ASKINGS, 0),
+    Draft::Build(0, 3),
+];
+
+// The row of the list may be longer than the desk needs, and what stands behind the list stays.
+#[test]
+fn a_row_too_long_for_its_list(rt: HostRuntime) -> Result<(), Fail> {
+    let mut tested = TestedHouse::new(rt.alloc(), SMALL)?;
+    tested.house.ran.resize(9, 77)?;
+    for draft in ALL_KINDS.iter() {
+        let _ = tested.perform(*draft)?;
+        assert!(rt; tail(tested.house.ran.as_slice(), 4) == [77; 5].as_slice());
+    }
+    assert!(rt; tested.house.ran.as_slice().starts_with(&[1, 1]));
+    Ok(())
 }
