@@ -1,12 +1,13 @@
 // Writes an entry from outside, given by its parts, into a row.
-ghost use Rattle.std.specs.Prelude.{◌≡◌, ◌<◌, ◌≤◌, ◌&&◌, length, if◌then◌else◌, nat_eq, nat_le, slice_index_or};
-ghost use Rattle.entry.specs.Layout.{askings_size, entry_size};
+ghost use Rattle.std.specs.Prelude.{◌≡◌, ◌+◌, ◌*◌, ◌≤◌, ◌&&◌, ◌++◌, length, take, if◌then◌else◌, nat_eq, nat_le};
+ghost use Rattle.entry.specs.Layout.{asking_size, askings_size, entry_size};
 ghost use Rattle.entry.specs.Rows.{asking_out, askings_out, entry_of, entry_out};
 ghost use Rattle.script.specs.Layout.{max_askings, max_lines};
+ghost use Rattle.std.specs.List.{flat_map};
 
 use super::asking::Asking;
 use super::layout::{ASKING_SIZE, ENTRY_SIZE, RESULT_AT};
-use rows::put_counted;
+use rows::{clear_from, put_all};
 use script::{MAX_ASKINGS, MAX_LINES, SCRIPT_SIZE, SourceLine};
 use script_rows::write_source;
 
@@ -35,9 +36,18 @@ fn write_asked(row: &mut [u64], askings: &[Asking])
     requires few { length askings.now ≤ max_askings }
     ensures { row.new ≡ askings_out askings.now }
 {
-    let numbers = |index: usize|
-        requires { index < length askings.now }
-        ensures { (asking : Asking) × (slice_index_or askings.entry.now index asking ≡ asking) × (result ≡ asking_out asking) }
-    { askings[index].numbers() };
-    put_counted(row, ASKING_SIZE, askings.len(), numbers);
+    put_all(row, 0, &[askings.len() as u64]);
+    write_each_asked(row, askings);
+    clear_from(row, 1 + ASKING_SIZE * askings.len());
+}
+
+// Writes the askings behind the row's first number.
+fn write_each_asked(row: &mut [u64], askings: &[Asking])
+    requires long { length row.old ≡ askings_size }
+    requires few { length askings.now ≤ max_askings }
+    ensures { take (1 + asking_size * length askings.now) row.new ≡ take 1 row.old ++ flat_map asking_out askings.now }
+{
+    for (index, asking) in askings.iter().enumerate() {
+        asking.write(row, 1 + ASKING_SIZE * index);
+    }
 }

@@ -1,12 +1,12 @@
 // Writes an entry into its row.
-ghost use Rattle.std.specs.Prelude.{◌≡◌, ℕ, ◌+◌, ◌*◌, ◌<◌, List, length, drop, if◌then◌else◌, nat_eq};
+ghost use Rattle.std.specs.Prelude.{◌≡◌, ℕ, ◌+◌, ◌*◌, ◌≤◌, List, ◌++◌, length, take, if◌then◌else◌, nat_eq};
 ghost use Rattle.entry.specs.Layout.{asking_size, askings_size, entry_size};
-ghost use Rattle.entry.specs.Rows.{InForm, asking_out, askings_in, askings_out, entry_from, entry_in, entry_out, first_asking};
-ghost use Rattle.script.specs.Layout.{max_askings};
+ghost use Rattle.entry.specs.Rows.{InForm, asking_out, askings_in, askings_out, entry_from, entry_in, entry_out};
+ghost use Rattle.std.specs.List.{flat_map};
 
 use super::asking::{Asking, asking_count};
 use super::layout::{ASKING_SIZE, ENTRY_SIZE, RESULT_AT};
-use rows::put_counted;
+use rows::{clear_from, put_all};
 use script::SCRIPT_SIZE;
 use script_rows::write_script;
 
@@ -35,9 +35,18 @@ fn write_askings(row: &mut [u64], askings: &[u64])
     requires { length row.old ≡ askings_size }
     ensures { row.new ≡ askings_out (askings_in askings.now) }
 {
-    let numbers = |index: usize|
-        requires { index < max_askings }
-        ensures { result ≡ asking_out (first_asking (drop (1 + asking_size * index) askings.entry.now)) }
-    { Asking::read(askings, 1 + ASKING_SIZE * index).numbers() };
-    put_counted(row, ASKING_SIZE, asking_count(askings), numbers);
+    let count = asking_count(askings);
+    put_all(row, 0, &[count as u64]);
+    write_each(row, askings);
+    clear_from(row, 1 + ASKING_SIZE * count);
+}
+
+// Copies the askings behind the row's first number.
+fn write_each(row: &mut [u64], askings: &[u64])
+    requires { askings_size ≤ length row.old }
+    ensures { take (1 + asking_size * length (askings_in askings.now)) row.new ≡ take 1 row.old ++ flat_map asking_out (askings_in askings.now) }
+{
+    for index in 0..asking_count(askings) {
+        Asking::read(askings, 1 + ASKING_SIZE * index).write(row, 1 + ASKING_SIZE * index);
+    }
 }

@@ -1,9 +1,10 @@
--- Laws of counted lists: how long one is, and that it is read back. Assumes nothing.
-use Rattle.std.proofs.Common.{◌≡◌, ℕ, ◌+◌, ◌-◌, ◌*◌, ◌<◌, ◌≤◌, min, List, [], ◌∷◌, ◌++◌, length, get_or, take, drop, sym, refl, ap, ◌∙◌, mul-le-mul_left, mul-zero, mul-suc, arith}
+-- Laws of counted lists: how one is written piece by piece, and that it is read back. Assumes nothing.
+use Rattle.std.proofs.Common.{◌≡◌, ℕ, suc, ◌+◌, ◌-◌, ◌*◌, ◌<◌, ◌≤◌, min, List, [], ◌∷◌, ◌++◌, length, get_or, take, drop, replicate, sym, refl, ap, ◌∙◌, mul-le-mul_left, mul-zero, mul-suc, add-one, arith}
 use Rattle.std.specs.List.{flat_map}
-use Rattle.std.proofs.lemmas.List.{append_assoc, drop_at, drop-drop, drop-take, get_or-take, length-append, length-replicate}
-use Rattle.rows.specs.Rows.{chunks, counted, counted_out}
+use Rattle.std.proofs.lemmas.List.{append_assoc, append-nil, drop_at, drop-drop, drop-take, get_or-take, flat_map_more, length-append, length-replicate, take_all, take_more}
+use Rattle.rows.specs.Rows.{chunks, counted, counted_out, written_at}
 use Rattle.rows.proofs.Chunks.{chunk_at, chunks_take, length_chunks}
+use Rattle.rows.proofs.Written.{length_written, take_written}
 
 module _ {X : Type 0} (out : X → List ℕ) (size : ℕ) (each : (y : X) → length (out y) ≡ size) where
   pub length_joined : (ys : List X) → length (flat_map out ys) ≡ size * length ys
@@ -14,6 +15,41 @@ module _ {X : Type 0} (out : X → List ℕ) (size : ℕ) (each : (y : X) → le
   length_counted most ys few =
       let inside : size * length ys ≤ size * most = mul-le-mul_left size few in
       simp (length-append, length-replicate) (omega (arith, length_joined ys))
+
+  -- the first i pieces stand behind the first number of the row
+  pub record Begun (row : List ℕ) (ys : List X) (i : ℕ) (row₁ : List ℕ) : Type 0 where
+    pub long : length row₁ ≡ length row
+    pub front : take (1 + size * i) row₁ ≡ take 1 row ++ flat_map out (take i ys)
+
+  pub begun_none : (row : List ℕ) (ys : List X) → Begun row ys 0 row
+  begun_none row ys = record { long = refl; front = rw mul-zero (sym (append-nil (take 1 row))) }
+
+  pub begun_more : (row : List ℕ) (ys : List X) (i : ℕ) (y : X) {row₁ row₂ : List ℕ} → i < length ys → 1 + size * length ys ≤ length row → get_or ys i y ≡ y → row₂ ≡ written_at row₁ (1 + size * i) (out y) → Begun row ys i row₁ → Begun row ys (i + 1) row₂
+  begun_more row ys i y {row₁} {row₂} h room here is so_far =
+      let at = 1 + size * i in
+      let more : size * (i + 1) ≡ size * i + size = rw add-one (mul-suc size i) in
+      let inside : size * (i + 1) ≤ size * length ys = mul-le-mul_left size (omega arith) in
+      let next : 1 + size * (i + 1) ≡ at + length (out y) = omega (arith, each y) in
+      let fits : at + length (out y) ≤ length row₁ = omega (arith, each y, so_far.long) in
+      let taken : take (i + 1) ys ≡ take i ys ++ y ∷ [] = take_more ys i y h ∙ ap (λ x. take i ys ++ x ∷ []) here in
+      record {
+        long = ap length is ∙ length_written row₁ at (out y) ∙ so_far.long;
+        front =
+            rw (next, is, taken) (take_written row₁ at (out y) fits ∙ ap (λ xs. xs ++ out y) so_far.front ∙ flat_map_more out (take 1 row) (take i ys) y);
+      }
+
+  -- all the pieces stand there
+  pub begun_end : (row : List ℕ) (ys : List X) (i : ℕ) {row₁ : List ℕ} → i ≡ length ys → Begun row ys i row₁ → take (1 + size * length ys) row₁ ≡ take 1 row ++ flat_map out ys
+  begun_end row ys i {row₁} all so_far =
+      let whole : take i ys ≡ ys = take_all i ys (omega arith) in
+      ap (λ n. take (1 + size * n) row₁) (sym all) ∙ so_far.front ∙ ap (λ zs. take 1 row ++ flat_map out zs) whole
+
+  -- with the count in front and 0 behind the pieces the list is written down
+  pub ended : (ys : List X) (most n : ℕ) (row row₁ row₂ : List ℕ) {row₃ : List ℕ} → n ≡ length ys → length ys ≤ most → length row ≡ 1 + size * most → row₁ ≡ written_at row 0 (n ∷ []) → length row₂ ≡ length row → take (1 + size * length ys) row₂ ≡ take 1 row₁ ++ flat_map out ys → row₃ ≡ take (1 + size * n) row₂ ++ replicate (length row₂ - (1 + size * n)) 0 → row₃ ≡ counted_out out size most ys
+  ended ys most n row row₁ row₂ all few long counts kept front is =
+      let count : take 1 row₁ ≡ length ys ∷ [] = ap (take 1) counts ∙ take_written row 0 (n ∷ []) (omega arith) ∙ ap (λ k. k ∷ []) all in
+      let behind : length row₂ - (1 + size * length ys) ≡ 1 + size * most - suc (length (flat_map out ys)) = omega (arith, length_joined ys) in
+      is ∙ rw (all, front, count, behind) refl
 
   module _ (read : List ℕ → X) (back : (y : X) (zs : List ℕ) → read (out y ++ zs) ≡ y) where
     chunks_back : (ys : List X) (zs : List ℕ) → chunks read size (length ys) (flat_map out ys ++ zs) ≡ ys

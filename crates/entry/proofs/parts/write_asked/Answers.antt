@@ -1,5 +1,5 @@
-use Rattle.std.proofs.Common.{refl}
-use Rattle.rows.proofs.Pieces.{put_as}
+use Rattle.std.proofs.Common.{refl, arith}
+use Rattle.rows.proofs.Counted.{ended}
 use Rattle.script.specs.Layout.{max_askings}
 use Rattle.entry.specs.Layout.{asking_size}
 use Rattle.entry.specs.Rows.{asking_out}
@@ -8,5 +8,5 @@ use Rattle.entry.proofs.parts.write_asked.Goals as goal
 
 pub returns : goal.returns
 returns c =
-    put_as asking_out asking_size max_askings _ c.args.askings.now c.args.row.now c.put_counted.ensures refl c.requires.long length_asking
-    (λ i piece h call. call)
+    ended asking_out asking_size length_asking c.args.askings.now max_askings _ c.args.row.now _ c.write_each_asked.new.row refl c.requires.few c.requires.long c.put_all.ensures (omega arith)
+    c.write_each_asked.ensures c.clear_from.ensures
