@@ -1,5 +1,5 @@
 // The askings of an entry in their row: a count, and then an item and an answer for each.
-ghost use Rattle.std.specs.Prelude.{◌≡◌, ◌≤◌, length, drop};
+ghost use Rattle.std.specs.Prelude.{◌≡◌, ◌<◌, ◌≤◌, length, drop, MatchOption, slice_index_or};
 ghost use Rattle.entry.specs.Rows.{asking_out, askings_in, first_asking};
 ghost use Rattle.rows.specs.Rows.{written_at};
 
@@ -46,4 +46,14 @@ pub fn asking_count(askings: &[u64]) -> usize
 {
     let count = number_after(askings, 0, 0) as usize;
     count.min(MAX_ASKINGS)
+}
+
+pub fn asking_of(askings: &[u64], index: usize) -> Option<Asking>
+    ensures { MatchOption result (length (askings_in askings.now) ≤ index) (λ asking. (index < length (askings_in askings.now)) × (slice_index_or (askings_in askings.now) index asking ≡ asking)) }
+{
+    if index < asking_count(askings) {
+        Some(Asking::read(askings, 1 + ASKING_SIZE * index))
+    } else {
+        None
+    }
 }

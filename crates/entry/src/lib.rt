@@ -7,7 +7,7 @@ mod layout;
 mod parts;
 mod writing;
 
-pub use asking::{Asking, asking_count};
+pub use asking::{Asking, asking_count, asking_of};
 pub use honesty::replay;
 pub use layout::{ASKING_SIZE, ASKINGS_SIZE, ENTRY_SIZE, RESULT_AT};
 pub use parts::write_from_parts;
