@@ -1,6 +1,7 @@
 -- Laws of numbers that are written into a row one behind the other. Assumes nothing.
-use Rattle.std.proofs.Common.{◌≡◌, ℕ, ◌+◌, ◌<◌, ◌≤◌, List, [], ◌∷◌, ◌++◌, length, get_or, take, drop, set, sym, refl, ap, ◌∙◌, add-zero, arith}
-use Rattle.std.proofs.lemmas.List.{append_assoc, append-nil, at_drop_all, at_drop_more, drop-set-lt, get_or-append-add, get_or-take, length-set, length-take-le, take_more_set}
+use Rattle.std.proofs.Common.{◌≡◌, ℕ, ◌+◌, ◌<◌, ◌≤◌, min, List, [], ◌∷◌, ◌++◌, length, get_or, take, drop, set, sym, refl, ap, ◌∙◌, ⊎_elim, add-zero, arith}
+use Rattle.std.proofs.lemmas.Bool.{cases_lt}
+use Rattle.std.proofs.lemmas.List.{append_assoc, append-nil, at_drop_all, at_drop_more, drop-set-lt, get_or-append-add, get_or-take, length-set, length-take-le, set_past, take_more_set}
 use Rattle.rows.specs.Rows.{written_at}
 
 pub length_written : (row : List ℕ) (at : ℕ) (ns : List ℕ) → length (written_at row at ns) ≡ length row
@@ -24,6 +25,20 @@ pub drop_written : (row : List ℕ) (at : ℕ) (ns : List ℕ) (k : ℕ) → at 
 unfolding written_at
 drop_written row at [] k h = refl
 drop_written row at (n ∷ ns) k h = drop_written (set row at n) (at + 1) ns k (omega arith) ∙ drop-set-lt k row at n (omega arith)
+
+-- past the end of the row nothing is written
+pub written_past : (row : List ℕ) (at : ℕ) (ns : List ℕ) → length row ≤ at → written_at row at ns ≡ row
+unfolding written_at
+written_past row at [] h = refl
+written_past row at (n ∷ ns) h = ap (λ xs. written_at xs (at + 1) ns) (set_past row at n h) ∙ written_past row (at + 1) ns (omega arith)
+
+-- so a place that no row reaches may stand for each place behind it
+pub written_capped : (row : List ℕ) (at most : ℕ) (ns : List ℕ) → length row ≤ most → written_at row (min at most) ns ≡ written_at row at ns
+written_capped row at most ns short =
+    ⊎_elim
+    (λ below. ap (λ k. written_at row k ns) (omega arith))
+    (λ above. written_past row (min at most) ns (omega arith) ∙ sym (written_past row at ns (omega arith)))
+    (cases_lt at most)
 
 -- one number further: what is left to be written gives the same
 pub written_none : (row : List ℕ) (at : ℕ) (ns : List ℕ) → written_at row (at + 0) ns ≡ written_at row at ns
