@@ -1,7 +1,7 @@
 -- A build whose item was evaluated, and whose list and entries were written. Assumes nothing.
 use Rattle.std.proofs.Common.{◌≡◌, ℕ, ◌+◌, ◌-◌, ◌<◌, ◌≤◌, Bool, true, false, cond, ltb, List, ◌++◌, length, take, drop, Some, None, Option, Ok, Err, Result, sym, refl, ap, ◌∙◌, subst, inl, inr, ⊎_elim, arith}
 use Rattle.std.proofs.lemmas.List.{length-map}
-use Rattle.std.proofs.lemmas.Bool.{ltb-false}
+use Rattle.std.proofs.lemmas.Bool.{cond-true, lt-ltb, ltb-false}
 use Rattle.rows.proofs.Chunks.{length_chunks}
 use Rattle.script.specs.Allowed.{or_else}
 use Rattle.script.specs.declared.refusal.Refusal.{Refusal}
@@ -49,6 +49,12 @@ no_fault items rows ran k e =
     let (within, rest) = none_unless (ltb (room_of rows) (count_of rows)) _ _ more in
     let (room, none) = none_unless (ltb (length ran) (n + 1)) _ _ list in
     (record { long = ltb-false _ _ long; within = ltb-false _ _ within }, omega (arith, ltb-false (length ran) (n + 1) room))
+
+-- where nothing is refused the row of the list has room for all items, so the list is in it
+pub all_listed :
+    (items rows ran : List ℕ) (k : ℕ) {count : ℕ} {list ran₁ : List ℕ} →
+    build_fault items rows ran k ≡ None → count ≡ length (items_in items) → ran₁ ≡ cond (ltb count (length ran)) list ran → ran₁ ≡ list
+all_listed items rows ran k {count} fault all listed = listed ∙ cond-true _ _ _ (lt-ltb count (length ran) (omega (arith, all, (no_fault items rows ran k fault).1)))
 
 -- what the recursion found, as an outcome
 abbrev pub outcome : Result ℕ Ring → Out

@@ -54,6 +54,6 @@ impl HasRun for Scratch {
     ghost has_run = { λ scratch item. is_run (state_of scratch item) };
 
     fn has_run(&self, item: u64) -> bool {
-        matches!(self.state(item), State::Ran(..))
+        matches!(self.states.get(item as usize), Some(State::Ran(..)))
     }
 }

@@ -78,6 +78,6 @@ impl HasRun for Evaluation<'_> {
     ghost has_run = { λ evaluation item. is_known (mark_of evaluation.marks item) };
 
     fn has_run(&self, item: u64) -> bool {
-        matches!(self.marks[item as usize], Mark::Known(_))
+        matches!(self.marks.get(item as usize), Some(Mark::Known(_)))
     }
 }

@@ -1,25 +1,24 @@
 // The list of the items that a build ran, in a lent row: how many, and then their numbers.
-ghost use Rattle.std.specs.Prelude.{◌≡◌, ℕ, ◌+◌, ◌<◌, ◌≤◌, Bool, List, [], ◌∷◌, ◌++◌, length, slice_index};
+ghost use Rattle.std.specs.Prelude.{◌≡◌, ℕ, ◌+◌, ◌<◌, Bool, List, [], ◌∷◌, ◌++◌, length, slice_index, if◌then◌else◌, nat_lt};
 ghost use Rattle.items.specs.Listing.{listed};
-ghost use Rattle.items.specs.Rows.{max_items};
 ghost use Rattle.theory.specs.Reference.{passing};
 
 // What a build knows of each item.
 pub trait HasRun {
     ghost has_run: { Self → ℕ → Bool };
 
-    // Whether the item's script was run to its end.
+    // Whether the item's script was run to its end; one that the build knows nothing of was not run.
     fn has_run(&self, item: u64) -> bool
-        requires { item < max_items }
         ensures { result ≡ has_run self.now item };
 }
 
-// Writes how many of the items below `count` were run, and then their numbers, which rise.
+// Writes how many of the items below `count` were run, and then their numbers, which rise; a row with no room for all of them stays as it was.
 pub fn list_runs<S: HasRun>(states: &S, count: usize, row: &mut [u64])
-    requires few { count ≤ max_items }
-    requires room { count < length row.old }
-    ensures { row.new ≡ listed (passing (S.has_run states.now) 0 count) row.old }
+    ensures { row.new ≡ (if nat_lt count (length row.old) then listed (passing (S.has_run states.now) 0 count) row.old else row.old) }
 {
+    if row.len() <= count {
+        return;
+    }
     row[0] = 0;
     for item in 0..count as u64 {
         if states.has_run(item) {

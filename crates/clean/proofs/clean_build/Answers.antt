@@ -1,4 +1,5 @@
 use Rattle.std.proofs.Common.{◌≤◌, length, ap, ◌∙◌, arith}
+use Rattle.std.proofs.lemmas.Bool.{cond-true, lt-ltb}
 use Rattle.items.specs.Listing.{listed}
 use Rattle.items.specs.Rows.{items_in}
 use Rattle.clean.specs.Builds.{known_items}
@@ -26,5 +27,5 @@ returns-clause-list c =
     record {
       ran = known_items marks (length d);
       built = whole_built d 256 _ c.args.item c.evaluate-answer.result done;
-      row = c.list_runs.ensures ∙ ap (λ n. listed (known_items marks n) c.args.ran.now) c.item_count-count.ensures.value;
+      row = c.list_runs.ensures ∙ cond-true _ _ _ (lt-ltb c.item_count-count.result (length c.args.ran.now) (omega arith)) ∙ ap (λ n. listed (known_items marks n) c.args.ran.now) c.item_count-count.ensures.value;
     }
