@@ -48,6 +48,7 @@ pub fn asking_count(askings: &[u64]) -> usize
     count.min(MAX_ASKINGS)
 }
 
+// The asking with this number, if there are so many; a build goes over all of them in turn instead.
 pub fn asking_of(askings: &[u64], index: usize) -> Option<Asking>
     ensures { MatchOption result (length (askings_in askings.now) ≤ index) (λ asking. (index < length (askings_in askings.now)) × (slice_index_or (askings_in askings.now) index asking ≡ asking)) }
 {
