@@ -39,4 +39,10 @@ impl<'a, N> Iterator for RowParts<'a, N> {
         self.rest = tail(part, self.size);
         Some(part)
     }
+
+    // So that who collects what the parts say asks for memory once.
+    #[tactic(auto, using(crate::proofs::Chunks::length_chunks))]
+    fn size_hint(&self) -> (usize, Option<usize>) {
+        (self.left, Some(self.left))
+    }
 }
