@@ -1,4 +1,4 @@
-// What is just allowed, and a house with no room.
+// Houses and rows at their limits: what is just allowed, no room, too many items to count, and a row longer than its list.
 use super::days::{Step, check_day};
 use super::draft::Draft;
 use super::lent_house::TestedHouse;
