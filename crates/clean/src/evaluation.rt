@@ -53,7 +53,7 @@ impl<'a> Evaluation<'a> {
         Ok(value)
     }
 
-    // A ring ends the run, and with it everything above.
+    // A ring ends the run, and with it everything above. Its return is written out, so that the edit of it that must fail changes nothing else.
     #[cycle(evaluate_run_script)]
     fn run_script(&mut self, depth: usize, script: &[u64]) -> Result<u64, Ring>
         requires { Ready (items_in self.old.items.now) self.old.marks depth }
@@ -65,7 +65,9 @@ impl<'a> Evaluation<'a> {
             match run(script, registers) {
                 Step::Gives(value) => return Ok(value),
                 Step::Asks { item, waiting } => {
-                    let value = self.evaluate(depth, item)?;
+                    let Ok(value) = self.evaluate(depth, item) else {
+                        return Err(Ring);
+                    };
                     registers = waiting.answer(value);
                 }
             }

@@ -40,17 +40,16 @@ run_script-loop-value-init t c = record { same = refl; running = running_start _
 pub run_script-returns-in-Gives-clause-outcome : goal.run_script-returns-in-Gives-clause-outcome
 run_script-returns-in-Gives-clause-outcome t c = running_ends c.loop-value.invariant.running _ c.in-Gives.ensures.step
 
-pub run_script-returns-in_err-value-in-Asks-clause-outcome : goal.run_script-returns-in_err-value-in-Asks-clause-outcome
-run_script-returns-in_err-value-in-Asks-clause-outcome t c =
+pub run_script-returns-in_default-clause-outcome : goal.run_script-returns-in_default-clause-outcome
+run_script-returns-in_default-clause-outcome t c =
     let so_far = c.loop-value.invariant in
-    let held = subst (λ row. Evaluated (items_in row) c.loop-value.self.marks c.evaluate.new.self.marks c.in-Asks.item (Err c.in_err-value-in-Asks.field-0.0)) so_far.same c.in_err-value-in-Asks.ensures.outcome in
-    let failed = err_from_is_err_and c.from_residual.result c.from_residual.ensures.1 in
-    rw (failed.1, failed.2) (running_held so_far.running c.in-Asks.ensures.step _ held)
+    let held = subst (λ row. Evaluated (items_in row) c.loop-value.self.marks c.evaluate.new.self.marks c.in-Asks.item (Err c.in_default.field-0)) so_far.same c.in_default.ensures.outcome in
+    running_held so_far.running c.in-Asks.ensures.step _ held
 
 pub run_script-loop-value-preserved : goal.run_script-loop-value-preserved
 run_script-loop-value-preserved t c =
     let so_far = c.loop-value.invariant in
-    let valued = subst (λ row. Evaluated (items_in row) c.loop-value.self.marks c.evaluate.new.self.marks c.in-Asks.item (Ok c.in_ok-value-in-Asks.value)) so_far.same c.in_ok-value-in-Asks.ensures.outcome in
+    let valued = subst (λ row. Evaluated (items_in row) c.loop-value.self.marks c.evaluate.new.self.marks c.in-Asks.item (Ok c.in-Ok.value)) so_far.same c.in-Ok.ensures.outcome in
     record {
       same = c.evaluate.ensures.same ∙ so_far.same;
       running = running_on so_far.running c.in-Asks.ensures.step _ _ valued (ap (rest (script_in c.args.script.now)) c.answer-registers.ensures);
