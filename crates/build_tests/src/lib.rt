@@ -3,6 +3,7 @@
 
 mod answer;
 #[cfg(test)]
+mod deeds;
 mod desk;
 #[cfg(test)]
 mod refused;

@@ -1,5 +1,6 @@
 // What a build takes over from earlier ones, and what it does not: small days at a desk of four items, with room for four entries.
-use super::desk::{Deed, DeskInUse};
+use super::deeds::Deed;
+use super::desk::DeskInUse;
 use build::Answer;
 use std::alloc::Global;
 use std::process::Abort;

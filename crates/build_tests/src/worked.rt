@@ -1,5 +1,6 @@
 // One day at a desk of eight items, with room for four entries.
-use super::desk::{Deed, DeskInUse};
+use super::deeds::Deed;
+use super::desk::DeskInUse;
 use build::Answer;
 use std::alloc::{AllocError, Global};
 use std::test::Fail;

@@ -1,4 +1,10 @@
 // Commands as a table can hold them, and the commands that they stand for.
+ghost use Rattle.entry.specs.Rows.{first_asking};
+ghost use Rattle.house.specs.Deeds.{deed_of};
+ghost use Rattle.house_tests.specs.Drafted.{carries_lines, drafted};
+ghost use Rattle.script.specs.Allowed.{first_source};
+ghost use Rattle.std.specs.Prelude.{◌≡◌, true, map, IfOk, MatchResult};
+
 use entry::Asking;
 use house::Command;
 use script::SourceLine;
@@ -20,7 +26,9 @@ pub enum Draft {
 }
 
 impl Draft {
-    pub fn command(self, heap: Global) -> Result<Command, AllocError> {
+    pub fn command(self, heap: Global) -> Result<Command, AllocError>
+        ensures { MatchResult result (λ command. deed_of command ≡ drafted self) (λ _. carries_lines self ≡ true) }
+    {
         match self {
             Draft::Write(desk, item, value) => Ok(Command::Write { desk, item, value }),
             Draft::Script(desk, item, lines) => {
@@ -42,7 +50,9 @@ impl Draft {
     }
 }
 
-fn lines_of(heap: Global, numbers: &[[u64; 4]]) -> Result<Vec<SourceLine>, AllocError> {
+fn lines_of(heap: Global, numbers: &[[u64; 4]]) -> Result<Vec<SourceLine>, AllocError>
+    ensures { IfOk result (λ lines. lines.items ≡ map first_source numbers.now) }
+{
     numbers
         .iter()
         .map(|[kind, first, second, third]| {
@@ -51,7 +61,9 @@ fn lines_of(heap: Global, numbers: &[[u64; 4]]) -> Result<Vec<SourceLine>, Alloc
         .collect(heap)
 }
 
-fn askings_of(heap: Global, numbers: &[[u64; 2]]) -> Result<Vec<Asking>, AllocError> {
+fn askings_of(heap: Global, numbers: &[[u64; 2]]) -> Result<Vec<Asking>, AllocError>
+    ensures { IfOk result (λ askings. askings.items ≡ map first_asking numbers.now) }
+{
     numbers
         .iter()
         .map(|[item, answer]| Asking {

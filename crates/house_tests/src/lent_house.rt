@@ -1,7 +1,9 @@
 // A house as tests use it: it is given drafts of commands, and its rows are compared.
 ghost use Rattle.house.specs.New.{NewHouse};
+ghost use Rattle.house.specs.Performed.{PerformedSo};
+ghost use Rattle.house_tests.specs.Drafted.{carries_lines, drafted};
 ghost use Rattle.house_tests.specs.Told.{told_as_numbers};
-ghost use Rattle.std.specs.Prelude.{◌≡◌, Decides, IfOk};
+ghost use Rattle.std.specs.Prelude.{◌≡◌, true, Decides, IfOk, OnErr};
 
 use super::draft::Draft;
 use house::{House, HouseSize, Told};
@@ -24,7 +26,11 @@ impl TestedHouse {
         })
     }
 
-    pub fn perform(&mut self, draft: Draft) -> Result<Told, AllocError> {
+    pub fn perform(&mut self, draft: Draft) -> Result<Told, AllocError>
+        ensures size { self.new.house.size ≡ self.old.house.size }
+        ensures performed { IfOk result (λ told. PerformedSo self.old.house.size (drafted draft) self.old.house.desks.items self.old.house.rows.items self.old.house.ran.items told self.new.house.desks.items self.new.house.rows.items self.new.house.ran.items) }
+        ensures unmoved { OnErr result ((self.new.house ≡ self.old.house) × (carries_lines draft ≡ true)) }
+    {
         let command = draft.command(self.heap)?;
         Ok(self.house.perform(&command))
     }

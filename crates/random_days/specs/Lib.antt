@@ -1,2 +1,4 @@
+pub mod Counted
+pub mod Entries
 pub mod Judged
 pub mod Lists

@@ -1,5 +1,5 @@
 // A number that counts.
-ghost use Rattle.std.specs.Prelude.{◌≡◌, ◌+◌, ◌-◌, ◌^◌, ◌<◌, true, false, Decides};
+ghost use Rattle.std.specs.Prelude.{◌≡◌, ◌+◌, ◌-◌, ◌^◌, true, false, min, Decides};
 
 use std::fmt;
 
@@ -10,13 +10,13 @@ pub struct Counter {
 
 impl Counter {
     pub fn count(&mut self)
-        ensures { self.old.number < 2 ^ 64 - 1 → self.new.number ≡ self.old.number + 1 }
+        ensures { self.new.number ≡ min (self.old.number + 1) (2 ^ 64 - 1) }
     {
         self.number = self.number.saturating_add(1);
     }
 
     pub fn count_if(&mut self, holds: bool)
-        ensures counted { holds ≡ true → self.old.number < 2 ^ 64 - 1 → self.new.number ≡ self.old.number + 1 }
+        ensures counted { holds ≡ true → self.new.number ≡ min (self.old.number + 1) (2 ^ 64 - 1) }
         ensures left { holds ≡ false → self.new.number ≡ self.old.number }
     {
         if holds {

@@ -1,4 +1,6 @@
 // How many commands were refused with each refusal that the commands of a house can meet.
+ghost use Rattle.random_days.specs.Counted.{Counted};
+
 use super::counter::Counter;
 use script::Refusal;
 use std::fmt;
@@ -18,7 +20,9 @@ pub struct Refusals {
 }
 
 impl Refusals {
-    pub fn count(&mut self, refusal: Refusal) {
+    pub fn count(&mut self, refusal: Refusal)
+        ensures { Counted refusal self.old self.new }
+    {
         match refusal {
             Refusal::NoSuchDesk { .. } => self.no_such_desk.count(),
             Refusal::NoSuchItem { .. } => self.no_such_item.count(),

@@ -2,6 +2,7 @@
 ghost use Rattle.house.specs.Deeds.{deed_of};
 ghost use Rattle.house.specs.New.{NewHouse};
 ghost use Rattle.house.specs.Performed.{PerformedSo};
+ghost use Rattle.random_days.specs.Entries.{first_entries};
 ghost use Rattle.random_days.specs.Lists.{list_of};
 ghost use Rattle.std.specs.Prelude.{◌≡◌, ◌+◌, ◌^◌, ◌<◌, ◌≤◌, length, IfOk, Decides};
 ghost use Rattle.store.specs.Rows.{count_of, room_of};
@@ -35,6 +36,7 @@ impl Watched {
     }
 
     pub fn perform(&mut self, command: &Command) -> Told
+        ensures size { self.new.house.size ≡ self.old.house.size }
         ensures performed { PerformedSo self.old.house.size (deed_of command.now) self.old.house.desks.items self.old.house.rows.items self.old.house.ran.items result self.new.house.desks.items self.new.house.rows.items self.new.house.ran.items }
         ensures desks { self.new.before.desks.items ≡ self.old.house.desks.items }
         ensures store { self.new.before.rows.items ≡ self.old.house.rows.items }
@@ -89,7 +91,9 @@ impl Watched {
     }
 
     // Whether the entries that were there still stand in their places.
-    pub fn same_entries(&self) -> bool {
+    pub fn same_entries(&self) -> bool
+        ensures { Decides result (first_entries (count_of self.now.before.rows.items) self.now.house.rows.items ≡ first_entries (count_of self.now.before.rows.items) self.now.before.rows.items) }
+    {
         let count = self.old_count();
         entries(self.house.rows.as_slice(), count) == entries(self.before.rows.as_slice(), count)
     }
@@ -130,7 +134,10 @@ impl Watched {
 }
 
 // The numbers of the first so many entries.
-pub fn entries(store: &[u64], count: u64) -> &[u64] {
+#[tactic(auto, using(crate::proofs::Fronts::take_most))]
+pub fn entries(store: &[u64], count: u64) -> &[u64]
+    ensures { result.now ≡ first_entries count store.now }
+{
     front(
         entry_of(store, 0),
         ENTRY_SIZE.saturating_mul(count as usize),
