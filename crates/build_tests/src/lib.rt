@@ -2,13 +2,14 @@
 #![tactic(auto)]
 
 mod answer;
-#[cfg(test)]
 mod deeds;
 mod desk;
 #[cfg(test)]
 mod refused;
 #[cfg(test)]
 mod remembered;
+#[cfg(test)]
+mod spending;
 #[cfg(test)]
 mod wide;
 #[cfg(test)]

@@ -1,6 +1,7 @@
 // One day at a desk of eight items, with room for four entries.
 use super::deeds::Deed;
 use super::desk::DeskInUse;
+use super::spending::spend_day;
 use build::Answer;
 use std::alloc::{AllocError, Global};
 use std::test::Fail;
@@ -46,6 +47,6 @@ fn desk(heap: Global) -> Result<DeskInUse, AllocError> {
 #[test]
 fn the_worked_day(rt: HostRuntime) -> Result<(), Fail> {
     let mut used = desk(rt.alloc())?;
-    used.spend_day(&rt, &DAY);
+    spend_day(&mut used, &rt, &DAY);
     Ok(())
 }

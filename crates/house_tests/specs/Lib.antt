@@ -1,2 +1,4 @@
 pub mod Drafted
+pub mod Refused
+pub mod Stepped
 pub mod Told

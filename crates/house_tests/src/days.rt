@@ -1,6 +1,13 @@
 // Days of commands in a new house, and what is told, listed and kept.
+ghost use Rattle.house_tests.specs.Drafted.{drafted};
+ghost use Rattle.house_tests.specs.Stepped.{SpentAnew, Stepped, Went};
+ghost use Rattle.std.specs.Prelude.{◌≡◌, OnOk};
+ghost use Rattle.test_rows.specs.Laid.{Lists};
+ghost use Rattle.test_rows.specs.Spent.{Spent};
+
 use super::draft::Draft;
 use super::lent_house::TestedHouse;
+use super::step::Step;
 use house::{HouseSize, Told};
 use rows::{number_after, tail};
 use std::alloc::Global;
@@ -8,27 +15,27 @@ use std::process::Abort;
 use std::test::Fail;
 use store::entry_count;
 
-#[derive(Clone, Copy)]
-pub enum Step {
-    // A command, and what is told of it.
-    Do(Draft, Told),
-    // A desk and an item, what a build of it tells, the list of what it ran, and how many entries are kept then.
-    Build(u64, u64, Told, &'static [u64], u64),
+pub fn check_day(rt: &impl Abort, heap: Global, size: HouseSize, day: &[Step]) -> Result<(), Fail>
+    ensures { OnOk result (SpentAnew size day.now) }
+{
+    let mut tested = TestedHouse::new(heap, size)?;
+    spend(&mut tested, rt, day)
 }
 
-pub fn check_day(rt: &impl Abort, heap: Global, size: HouseSize, day: &[Step]) -> Result<(), Fail> {
-    TestedHouse::new(heap, size)?.spend(rt, day)
+// No method: the file of its proof would belong to the type, which stands outside the tests.
+pub fn spend(tested: &mut TestedHouse, rt: &impl Abort, day: &[Step]) -> Result<(), Fail>
+    ensures { OnOk result (Spent Stepped day.now tested.old.house tested.new.house) }
+{
+    for step in day {
+        tested.check_step(rt, *step)?;
+    }
+    Ok(())
 }
 
 impl TestedHouse {
-    pub fn spend(&mut self, rt: &impl Abort, day: &[Step]) -> Result<(), Fail> {
-        for step in day {
-            self.check_step(rt, *step)?;
-        }
-        Ok(())
-    }
-
-    fn check_step(&mut self, rt: &impl Abort, step: Step) -> Result<(), Fail> {
+    fn check_step(&mut self, rt: &impl Abort, step: Step) -> Result<(), Fail>
+        ensures { OnOk result (Stepped step self.old.house self.new.house) }
+    {
         match step {
             Step::Do(draft, told) => self.check_told(rt, draft, told),
             Step::Build(desk, item, told, ran, kept) => {
@@ -40,14 +47,19 @@ impl TestedHouse {
         }
     }
 
-    fn check_told(&mut self, rt: &impl Abort, draft: Draft, told: Told) -> Result<(), Fail> {
+    fn check_told(&mut self, rt: &impl Abort, draft: Draft, told: Told) -> Result<(), Fail>
+        ensures went { OnOk result (Went (drafted draft) told self.old.house self.new.house) }
+        ensures size { self.new.house.size ≡ self.old.house.size }
+    {
         assert_eq!(rt; self.perform(draft)?, told);
         Ok(())
     }
 }
 
 // The row begins with the length of the list and the list.
-fn check_list(rt: &impl Abort, row: &[u64], list: &[u64]) {
+fn check_list(rt: &impl Abort, row: &[u64], list: &[u64])
+    ensures { Lists row.now list.now }
+{
     assert_eq!(rt; number_after(row, 0, 0), list.len() as u64);
     assert!(rt; tail(row, 1).starts_with(list));
 }

@@ -1,4 +1,8 @@
 // A house that is in use, whose rows are lent in good order or not, and commands that are refused there.
+ghost use Rattle.house_tests.specs.Drafted.{drafted};
+ghost use Rattle.house_tests.specs.Refused.{RefusedThere};
+ghost use Rattle.std.specs.Prelude.{◌≡◌, IfOk, OnOk};
+
 use super::draft::Draft;
 use super::lent_house::{TestedHouse, same_rows, told_numbers};
 use super::scripts::TWICE;
@@ -73,7 +77,9 @@ static USE: [Draft; 3] = [
 ];
 
 // The house after these commands, whose rows are then lent as told.
-fn lent_house(heap: Global, lent: Lent) -> Result<TestedHouse, AllocError> {
+fn lent_house(heap: Global, lent: Lent) -> Result<TestedHouse, AllocError>
+    ensures { IfOk result (λ tested. tested.house.size ≡ SIZE) }
+{
     let mut tested = TestedHouse::new(heap, SIZE)?;
     for draft in USE.iter() {
         let _ = tested.perform(*draft)?;
@@ -91,7 +97,9 @@ pub fn check_refused(
     lent: Lent,
     draft: Draft,
     refusal: (u64, u64),
-) -> Result<(), Fail> {
+) -> Result<(), Fail>
+    ensures { OnOk result (RefusedThere SIZE (drafted draft) refusal) }
+{
     let mut tested = lent_house(heap, lent)?;
     let before = lent_house(heap, lent)?;
     let told = tested.perform(draft)?;

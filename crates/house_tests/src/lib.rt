@@ -17,6 +17,7 @@ mod scripts;
 mod sharing;
 #[cfg(test)]
 mod snow_load;
+mod step;
 #[cfg(test)]
 mod storing;
 #[cfg(test)]

@@ -1,8 +1,9 @@
 // Houses and rows at their limits: what is just allowed, no room, too many items to count, and a row longer than its list.
-use super::days::{Step, check_day};
+use super::days::check_day;
 use super::draft::Draft;
 use super::lent_house::TestedHouse;
 use super::scripts::{SUM, TWICE};
+use super::step::Step;
 use house::{HouseSize, Told, new_desks};
 use rows::tail;
 use script::Refusal;

@@ -1,7 +1,8 @@
 // Two desks over one store: the same items share entries, whatever stands under the same number.
-use super::days::{Step, check_day};
+use super::days::check_day;
 use super::draft::Draft;
 use super::scripts::{SUM, TWICE};
+use super::step::Step;
 use house::{HouseSize, Told};
 use std::test::Fail;
 

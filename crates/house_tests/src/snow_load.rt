@@ -1,7 +1,8 @@
 // A written number is corrected after others have built from it.
-use super::days::{Step, check_day};
+use super::days::check_day;
 use super::draft::Draft;
 use super::scripts::SUM;
+use super::step::Step;
 use house::{HouseSize, Told};
 use std::test::Fail;
 

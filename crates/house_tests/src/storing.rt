@@ -1,7 +1,8 @@
 // Imports and removals, and what the store's row holds after them, number for number.
-use super::days::Step;
+use super::days::spend;
 use super::draft::Draft;
 use super::lent_house::TestedHouse;
+use super::step::Step;
 use house::{House, HouseSize, Told};
 use rows::put_all;
 use script::Refusal;
@@ -67,9 +68,9 @@ fn check_stored(rt: &impl Abort, house: &House, answers: &[u64]) {
 #[test]
 fn imports_and_removals(rt: HostRuntime) -> Result<(), Fail> {
     let mut tested = TestedHouse::new(rt.alloc(), SIZE)?;
-    tested.spend(&rt, &FILLING)?;
+    spend(&mut tested, &rt, &FILLING)?;
     check_stored(&rt, &tested.house, &[9, 7]);
-    tested.spend(&rt, &REMOVING)?;
+    spend(&mut tested, &rt, &REMOVING)?;
     check_stored(&rt, &tested.house, &[7]);
     Ok(())
 }

@@ -1,7 +1,8 @@
 // One whole day at a desk of eight items, with room for four entries.
-use super::days::{Step, check_day};
+use super::days::check_day;
 use super::draft::Draft;
 use super::scripts::SUM;
+use super::step::Step;
 use house::{HouseSize, Told};
 use std::test::Fail;
 
