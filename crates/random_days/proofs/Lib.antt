@@ -1,1 +1,10 @@
+pub mod Again
+pub mod Changes
+pub mod Draws
+pub mod Faults
 pub mod Fronts
+pub mod Pools
+pub mod Reached
+pub mod Records
+pub mod Replayed
+pub mod Spoils

@@ -1,13 +1,16 @@
 -- What counting one refusal changes. Assumes nothing: these are definitions.
-use Rattle.std.specs.Prelude.{◌≡◌, ◌+◌, ◌-◌, ◌^◌, min}
+use Rattle.std.specs.Prelude.{◌≡◌, ℕ, ◌+◌, ◌-◌, ◌^◌, min}
 use Rattle.script.specs.declared.refusal.Refusal.{Refusal}
 use Rattle.script.specs.declared.refusal.Refusal.TheVariants.{Unreadable, NoSuchDesk, NoSuchItem, TooManyLines, UnknownKind, NoSuchRegister, SkipsTooMany, NoSuchEntry, TooManyAskings, NotHonest, StoreFull, StoreTooShort, StoreOverfull, ListTooShort}
 use Rattle.random_days.specs.declared.counter.Counter.{Counter}
 use Rattle.random_days.specs.declared.refusals.Refusals.{Refusals}
 
--- a counter that is full stays full
+-- so many more; a counter that is full stays full
+abbrev pub More : ℕ → Counter → Counter → Type 0
+More n old new = new.number ≡ min (old.number + n) (2 ^ 64 - 1)
+
 abbrev pub OneMore : Counter → Counter → Type 0
-OneMore old new = new.number ≡ min (old.number + 1) (2 ^ 64 - 1)
+OneMore old new = More 1 old new
 
 -- the refusal's own counter has one more, and the others stay; refusals that no command of a house meets have none
 abbrev pub Counted : Refusal → Refusals → Refusals → Type 0

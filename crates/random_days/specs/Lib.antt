@@ -1,4 +1,13 @@
 pub mod Counted
+pub mod Days
+pub mod Drafted
+pub mod Drawn
 pub mod Entries
+pub mod Faultless
 pub mod Judged
 pub mod Lists
+pub mod Performed
+pub mod Pooled
+pub mod Recorded
+pub mod Seeds
+pub mod Spoiled

@@ -1,4 +1,11 @@
 // One day from its seed: a house is drawn, its items are filled one by one, and then commands come as they are drawn.
+ghost use Rattle.random_days.specs.Counted.{OneMore};
+ghost use Rattle.random_days.specs.Days.{DaySize, FaultAt, IsDayCount, Reached, RightStep, WholeDay};
+ghost use Rattle.random_days.specs.Entries.{first_entries};
+ghost use Rattle.random_days.specs.Faultless.{AllFaultless};
+ghost use Rattle.std.specs.Prelude.{◌≡◌, ◌≢◌, ◌+◌, ◌*◌, ◌^◌, ◌<◌, ◌≤◌, Err, IfErr, IfOk, MatchOption, OnOk};
+ghost use Rattle.store.specs.Rows.{count_of};
+
 use super::drafts::Draft;
 use super::drawing::{draw, draw_first};
 use super::fault::Fault;
@@ -21,7 +28,9 @@ pub struct Wrong {
 }
 
 // A day ends early where something is wrong.
-pub fn run_day(heap: Global, number: u64, tally: &mut Tally) -> Result<Option<Wrong>, AllocError> {
+pub fn run_day(heap: Global, number: u64, tally: &mut Tally) -> Result<Option<Wrong>, AllocError>
+    ensures { IfOk result (λ wrong. MatchOption wrong (WholeDay tally.old.commands tally.new.commands) (λ wrong. FaultAt tally.old.commands tally.new.commands wrong)) }
+{
     let mut day = Day::new(heap, Seed::new(number))?;
     let deeds = day.draw_count();
     for deed in 0..deeds {
@@ -41,7 +50,9 @@ struct Day {
 }
 
 impl Day {
-    fn new(heap: Global, seed: Seed) -> Result<Day, AllocError> {
+    fn new(heap: Global, seed: Seed) -> Result<Day, AllocError>
+        ensures { IfOk result (λ day. Reached 0 day.watched.house) }
+    {
         Ok(Day {
             seed,
             pool: Pool {
@@ -53,7 +64,9 @@ impl Day {
     }
 
     // How many commands the day has, with those that fill the items.
-    fn draw_count(&self) -> u64 {
+    fn draw_count(&self) -> u64
+        ensures { DaySize self.now.watched.house.size → IsDayCount result }
+    {
         let HouseSize { desks, items, .. } = self.watched.house.size;
         let more = self.seed.at(3).between(20, 80);
         desks.saturating_mul(items).saturating_add(more)
@@ -64,7 +77,11 @@ impl Day {
         heap: Global,
         deed: u64,
         tally: &mut Tally,
-    ) -> Result<Result<(), Fault>, AllocError> {
+    ) -> Result<Result<(), Fault>, AllocError>
+        ensures right { IfOk result (λ judged. OnOk judged (RightStep self.old.watched.house self.new.watched.house)) }
+        ensures fault { IfOk result (λ judged. judged ≢ Err Fault.NotHonest) }
+        ensures counted { IfOk result (λ _. OneMore tally.old.commands tally.new.commands) }
+    {
         let mut row = [0; ENTRY_SIZE];
         let draft = self.draw(deed, &mut row);
         let command = draft.kind.command(heap, &row)?;
@@ -89,7 +106,9 @@ impl Day {
 }
 
 // Most houses are small; some have no room, and some have more than their builds leave.
-fn draw_size(seed: Seed) -> HouseSize {
+fn draw_size(seed: Seed) -> HouseSize
+    ensures { DaySize result }
+{
     let items = if seed.at(0).percent(4) {
         seed.at(1).between(13, 40)
     } else {
@@ -110,7 +129,11 @@ fn draw_size(seed: Seed) -> HouseSize {
 }
 
 // At the end of a day every entry replays.
-fn judge_entries(store: &[u64], tally: &mut Tally) -> Result<(), Fault> {
+fn judge_entries(store: &[u64], tally: &mut Tally) -> Result<(), Fault>
+    ensures honest { OnOk result (AllFaultless (first_entries (count_of store.now) store.now)) }
+    ensures fault { IfErr result (λ fault. fault ≡ Fault.NotHonest) }
+    ensures counted { tally.new.commands ≡ tally.old.commands }
+{
     let mut judged = Ok(());
     for entry in entries(store, entry_count(store)).chunks_exact(ENTRY_SIZE) {
         tally.entries.count();

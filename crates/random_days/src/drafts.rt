@@ -1,4 +1,9 @@
 // A command as it is drawn, with its lines and askings still in a row, and the command that it makes.
+ghost use Rattle.house.specs.Deeds.{deed_of};
+ghost use Rattle.random_days.specs.Drafted.{carries_lines, drafted, pieces_said};
+ghost use Rattle.script.specs.Allowed.{sources_in};
+ghost use Rattle.std.specs.Prelude.{◌≡◌, ℕ, true, List, IfOk, MatchResult};
+
 use super::expected::Expected;
 use entry::{ASKING_SIZE, Asking, RESULT_AT};
 use house::{Command, Place};
@@ -23,7 +28,9 @@ pub struct Draft {
 
 impl Kind {
     // The row begins with a script; for an import it is an entry.
-    pub fn command(self, heap: Global, row: &[u64]) -> Result<Command, AllocError> {
+    pub fn command(self, heap: Global, row: &[u64]) -> Result<Command, AllocError>
+        ensures { MatchResult result (λ command. deed_of command ≡ drafted self row.now) (λ _. carries_lines self ≡ true) }
+    {
         match self {
             Kind::Write {
                 place: Place { desk, item },
@@ -44,7 +51,9 @@ impl Kind {
     }
 }
 
-fn import_command(heap: Global, row: &[u64]) -> Result<Command, AllocError> {
+fn import_command(heap: Global, row: &[u64]) -> Result<Command, AllocError>
+    ensures { IfOk result (λ command. deed_of command ≡ drafted Kind.Import row.now) }
+{
     let lines = read_lines(heap, row)?;
     let askings = read_counted(heap, tail(row, SCRIPT_SIZE), ASKING_SIZE, |part| {
         Asking::read(part, 0)
@@ -57,7 +66,9 @@ fn import_command(heap: Global, row: &[u64]) -> Result<Command, AllocError> {
     })
 }
 
-fn read_lines(heap: Global, script: &[u64]) -> Result<Vec<SourceLine>, AllocError> {
+fn read_lines(heap: Global, script: &[u64]) -> Result<Vec<SourceLine>, AllocError>
+    ensures { IfOk result (λ lines. lines.items ≡ sources_in script.now) }
+{
     read_counted(heap, script, LINE_SIZE, |part| SourceLine::read(part, 0))
 }
 
@@ -69,6 +80,7 @@ fn read_counted<T: Drop, F: FnMut(&[u64]) -> T>(
     read: F,
 ) -> Result<Vec<T>, AllocError>
     requires { (f : _) (part : _) → F.pre f part }
+    ensures { (reads : List ℕ → T) → ((f : F) (part : _) (piece : T) (g : F) → F.step f part piece g → (g ≡ f) × (piece ≡ reads part.now)) → IfOk result (λ pieces. pieces.items ≡ pieces_said reads size row.now) }
 {
     let count = number_after(row, 0, 0) as usize;
     parts(tail(row, 1), size, count).map(read).collect(heap)

@@ -1,4 +1,12 @@
 // Draws the next command of a day, and what will be told of it.
+ghost use Rattle.house.specs.Faults.{place_fault};
+ghost use Rattle.random_days.specs.Drawn.{DrawnFirst, DrawnRemoval, DrawnScript, ExpectedAt, ExpectedOf, ExpectedOfImport, FaultBy, KindBy, RowOf, expected_by, line_count, room_fault};
+ghost use Rattle.random_days.specs.Seeds.{Happens, number_at};
+ghost use Rattle.random_days.specs.declared.drafts.Kind.TheVariants.{Import};
+ghost use Rattle.script.specs.Layout.{max_lines};
+ghost use Rattle.std.specs.Prelude.{◌≡◌, ◌<◌, ◌≤◌, ◌%◌, max};
+ghost use Rattle.store.specs.Rows.{count_of};
+
 use super::drafts::{Draft, Kind};
 use super::entries::{read_back, record_run};
 use super::expected::Expected;
@@ -13,7 +21,12 @@ use store::entry_count;
 const PLANS_AT: u64 = 1000;
 
 // The lines and askings of a script or an import go into the row.
-pub fn draw(view: View<'_>, seed: Seed, row: &mut [u64]) -> Draft {
+#[tactic(auto, using(crate::proofs::Draws::script_expected, crate::proofs::Draws::removal_expected, crate::proofs::Draws::removal_keeps, crate::proofs::Draws::import_expected, crate::proofs::Draws::import_keeps, crate::proofs::Draws::removal_by, crate::proofs::Draws::import_by))]
+pub fn draw(view: View<'_>, seed: Seed, row: &mut [u64]) -> Draft
+    ensures expected { ExpectedOf view.entry.house.now.size view.entry.house.now.rows.items (number_at seed.number 2) result.kind result.expected }
+    ensures kind { KindBy (number_at seed.number 1) result.kind }
+    ensures row { RowOf (number_at seed.number 2) result.kind row.old row.new }
+{
     let (place, expected) = draw_place(view.house.size, seed.at(0));
     match seed.at(1).below(100) {
         0..=49 => Draft {
@@ -39,7 +52,9 @@ pub fn draw(view: View<'_>, seed: Seed, row: &mut [u64]) -> Draft {
 }
 
 // What an item is at the start of a day: most are made by a script, the first is written; every second desk is alike.
-pub fn draw_first(view: View<'_>, place: Place, row: &mut [u64]) -> Draft {
+pub fn draw_first(view: View<'_>, place: Place, row: &mut [u64]) -> Draft
+    ensures { DrawnFirst view.entry.house.now.size.items place result row.old row.new }
+{
     let plan = place
         .desk
         .saturating_mul(place.desk % 2)
@@ -62,7 +77,10 @@ pub fn draw_first(view: View<'_>, place: Place, row: &mut [u64]) -> Draft {
 }
 
 // An item at a desk, or one that is not there: of the two the desk is refused first.
-fn draw_place(size: HouseSize, seed: Seed) -> (Place, Expected) {
+fn draw_place(size: HouseSize, seed: Seed) -> (Place, Expected)
+    ensures expected { ExpectedAt size result.0 result.1 }
+    ensures fault { FaultBy (number_at seed.number 2) result.1 }
+{
     let desk = seed.at(0).below(size.desks);
     let item = seed.at(1).below(size.items);
     match seed.at(2).below(60) {
@@ -81,7 +99,11 @@ fn draw_place(size: HouseSize, seed: Seed) -> (Place, Expected) {
 }
 
 // The place, or one later at the desk: later items need more than earlier ones.
-fn draw_later(size: HouseSize, seed: Seed, place: Place) -> Place {
+fn draw_later(size: HouseSize, seed: Seed, place: Place) -> Place
+    ensures desk { result.desk ≡ place.desk }
+    ensures item { 0 < size.items → result.item ≡ max place.item (seed.number % size.items) }
+    ensures fault { 0 < size.items → place_fault size result.desk result.item ≡ place_fault size place.desk place.item }
+{
     let Place { desk, item } = place;
     Place {
         desk,
@@ -89,7 +111,10 @@ fn draw_later(size: HouseSize, seed: Seed, place: Place) -> Place {
     }
 }
 
-fn draw_script(view: View<'_>, seed: Seed, item: u64, row: &mut [u64]) -> Expected {
+fn draw_script(view: View<'_>, seed: Seed, item: u64, row: &mut [u64]) -> Expected
+    ensures expected { DrawnScript seed.number result }
+    ensures row { (¬ Happens (number_at seed.number 1) 15) → line_count row.new ≤ max_lines }
+{
     view.pool
         .write_script(view.pool.choose(seed.at(0), item), row);
     if seed.at(1).percent(15) {
@@ -99,7 +124,9 @@ fn draw_script(view: View<'_>, seed: Seed, item: u64, row: &mut [u64]) -> Expect
     }
 }
 
-fn draw_remove(view: View<'_>, seed: Seed) -> Draft {
+fn draw_remove(view: View<'_>, seed: Seed) -> Draft
+    ensures { DrawnRemoval seed.number (count_of view.entry.house.now.rows.items) result.kind result.expected }
+{
     let count = entry_count(view.house.rows.as_slice());
     let entry = seed.between(0, count);
     let expected = if entry < count {
@@ -114,7 +141,11 @@ fn draw_remove(view: View<'_>, seed: Seed) -> Draft {
 }
 
 // Half of the imports are honest; those are refused only if there is no room.
-fn draw_import(view: View<'_>, seed: Seed, row: &mut [u64]) -> Draft {
+#[tactic(auto, using(crate::proofs::Draws::spoiled_first))]
+fn draw_import(view: View<'_>, seed: Seed, row: &mut [u64]) -> Draft
+    ensures kind { result.kind ≡ Import }
+    ensures expected { ExpectedOfImport seed.number view.entry.house.now.size.room (count_of view.entry.house.now.rows.items) result.expected }
+{
     let count = entry_count(view.house.rows.as_slice());
     if count > 0 && seed.at(0).percent(50) {
         read_back(view.house.rows.as_slice(), seed.at(1).below(count), row);
@@ -133,7 +164,9 @@ fn draw_import(view: View<'_>, seed: Seed, row: &mut [u64]) -> Draft {
 }
 
 // What a store with so many entries says of one more.
-fn room_for(room: u64, count: u64) -> Expected {
+fn room_for(room: u64, count: u64) -> Expected
+    ensures { result ≡ expected_by (room_fault room count) }
+{
     if count < room {
         return Expected::Performed;
     }

@@ -1,4 +1,10 @@
 // Honest entries in a row: read back from the store, or recorded from a run of a script.
+ghost use Rattle.entry.specs.Layout.{entry_size};
+ghost use Rattle.random_days.specs.Recorded.{RecordedEntry};
+ghost use Rattle.rows.specs.Rows.{written_at};
+ghost use Rattle.std.specs.Prelude.{◌≡◌, drop, take};
+ghost use Rattle.store.specs.Rows.{entry_at};
+
 use super::seed::Seed;
 use super::view::View;
 use entry::{ASKING_SIZE, Asking, ENTRY_SIZE, RESULT_AT};
@@ -9,12 +15,17 @@ use runner::{Step, run};
 use script::{MAX_ASKINGS, SCRIPT_SIZE};
 use store::entry_of;
 
-pub fn read_back(store: &[u64], index: u64, row: &mut [u64]) {
+pub fn read_back(store: &[u64], index: u64, row: &mut [u64])
+    ensures { row.new ≡ written_at row.old 0 (take entry_size (drop (entry_at index) store.now)) }
+{
     put_all(row, 0, front(entry_of(store, index as usize), ENTRY_SIZE));
 }
 
 // Runs a script of the day on a desk's clean values, or on answers that no desk may have.
-pub fn record_run(view: View<'_>, seed: Seed, row: &mut [u64]) {
+pub fn record_run(view: View<'_>, seed: Seed, row: &mut [u64])
+    ensures behind { drop entry_size row.new ≡ drop entry_size row.old }
+    ensures honest { RecordedEntry row.old row.new }
+{
     view.pool
         .write_script(seed.at(0).below(view.pool.scripts), row);
     let mut registers = Registers::new();

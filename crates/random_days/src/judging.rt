@@ -1,6 +1,10 @@
 // Performs a command, counts what came of it, and says what is otherwise than the rules have it.
+ghost use Rattle.house.specs.Deeds.{deed_of};
+ghost use Rattle.random_days.specs.Counted.{OneMore};
 ghost use Rattle.random_days.specs.Judged.{AgreedBeside, Meets};
-ghost use Rattle.std.specs.Prelude.{◌≡◌, true, Ok, Err, OnOk, if◌then◌else◌};
+ghost use Rattle.random_days.specs.Performed.{BuiltAgain, DoneSo, KeptSo, LeftSo, PerformedRight, PerformedWrong, WrongBuilt, WrongSo};
+ghost use Rattle.std.specs.Prelude.{◌≡◌, ◌≢◌, ◌≤◌, true, Ok, Err, Decides, IfErr, OnOk, if◌then◌else◌};
+ghost use Rattle.store.specs.Rows.{count_of, room_of};
 
 use super::beside::{Beside, build_clean, is_same};
 use super::drafts::{Draft, Kind};
@@ -15,7 +19,13 @@ pub fn perform_judged(
     draft: Draft,
     command: &Command,
     tally: &mut Tally,
-) -> Result<(), Fault> {
+) -> Result<(), Fault>
+    ensures size { watched.new.house.size ≡ watched.old.house.size }
+    ensures right { OnOk result (PerformedRight watched.old.house.size (deed_of command.now) draft watched.old.house.desks.items watched.old.house.rows.items watched.old.house.ran.items watched.new.house.desks.items watched.new.house.rows.items watched.new.house.ran.items) }
+    ensures wrong { IfErr result (λ fault. PerformedWrong watched.old.house.size (deed_of command.now) draft fault watched.old.house.desks.items watched.old.house.rows.items watched.old.house.ran.items) }
+    ensures fault { result ≢ Err Fault.NotHonest }
+    ensures counted { OneMore tally.old.commands tally.new.commands }
+{
     let told = watched.perform(command);
     let beside = match draft.kind {
         Kind::Build { place } => Some(build_clean(&watched.house, place, told)),
@@ -31,13 +41,9 @@ pub fn perform_judged(
     }
 }
 
-fn count_told(
-    kind: Kind,
-    told: Told,
-    watched: &Watched,
-    beside: Option<Beside>,
-    tally: &mut Tally,
-) {
+fn count_told(kind: Kind, told: Told, watched: &Watched, beside: Option<Beside>, tally: &mut Tally)
+    ensures { OneMore tally.old.commands tally.new.commands }
+{
     let import = matches!(kind, Kind::Import);
     tally.commands.count();
     match told {
@@ -65,6 +71,11 @@ fn count_told(
 fn judge(draft: Draft, told: Told, watched: &Watched, beside: Option<Beside>) -> Result<(), Fault>
     ensures met { OnOk result (Meets draft.expected told) }
     ensures agreed { OnOk result (AgreedBeside told beside) }
+    ensures room { OnOk result (room_of watched.now.house.rows.items ≡ watched.now.house.size.room) }
+    ensures in_room { OnOk result (count_of watched.now.house.rows.items ≤ watched.now.house.size.room) }
+    ensures left { OnOk result (LeftSo watched.now.house.size draft.kind told watched.now.before.desks.items watched.now.before.rows.items watched.now.before.ran.items watched.now.house.desks.items watched.now.house.rows.items watched.now.house.ran.items) }
+    ensures wrong { IfErr result (λ fault. WrongSo fault watched.now.house.size draft told watched.now.before.desks.items watched.now.before.rows.items watched.now.before.ran.items watched.now.house.desks.items watched.now.house.rows.items watched.now.house.ran.items) }
+    ensures fault { result ≢ Err Fault.NotHonest }
 {
     hold(draft.expected.meets(told), Fault::ToldOtherwise)?;
     hold(watched.in_room(), Fault::MoreThanRoom)?;
@@ -83,7 +94,9 @@ fn hold(right: bool, fault: Fault) -> Result<(), Fault>
 }
 
 // Whether a command that is done left alone what it has nothing to do with.
-fn done_so(kind: Kind, watched: &Watched) -> bool {
+fn done_so(kind: Kind, watched: &Watched) -> bool
+    ensures { Decides result (DoneSo kind watched.now.before.desks.items watched.now.before.rows.items watched.now.before.ran.items watched.now.house.desks.items watched.now.house.rows.items watched.now.house.ran.items) }
+{
     match kind {
         Kind::Write { .. } | Kind::Script { .. } => watched.same_ran() && watched.same_store(),
         Kind::Remove { .. } => {
@@ -102,7 +115,10 @@ fn done_so(kind: Kind, watched: &Watched) -> bool {
 }
 
 fn judge_built(watched: &Watched, beside: Beside) -> Result<(), Fault>
-    ensures { OnOk result (beside.agrees ≡ true) }
+    ensures agrees { OnOk result (beside.agrees ≡ true) }
+    ensures kept { OnOk result (KeptSo watched.now.house.size watched.now.before.desks.items watched.now.before.rows.items watched.now.house.desks.items watched.now.house.rows.items watched.now.house.ran.items) }
+    ensures wrong { IfErr result (λ fault. WrongBuilt beside fault watched.now.house.size watched.now.before.desks.items watched.now.before.rows.items watched.now.house.desks.items watched.now.house.rows.items watched.now.house.ran.items) }
+    ensures fault { result ≢ Err Fault.NotHonest }
 {
     hold(beside.agrees, Fault::AnotherAnswer)?;
     hold(beside.within, Fault::RanMore)?;
@@ -119,7 +135,13 @@ fn build_again(
     command: &Command,
     told: Told,
     tally: &mut Tally,
-) -> Result<(), Fault> {
+) -> Result<(), Fault>
+    ensures size { watched.new.house.size ≡ watched.old.house.size }
+    ensures again { OnOk result (BuiltAgain watched.old.house.size (deed_of command.now) told watched.old.house.desks.items watched.old.house.rows.items watched.old.house.ran.items watched.new.house.desks.items watched.new.house.rows.items watched.new.house.ran.items) }
+    ensures wrong { IfErr result (λ fault. fault ≡ Fault.RanAgain) }
+    ensures fault { result ≢ Err Fault.NotHonest }
+    ensures counted { tally.new.commands ≡ tally.old.commands }
+{
     let again = watched.perform(command);
     let same = watched.same_desks()
         && watched.same_store()

@@ -1,4 +1,11 @@
 // The scripts of a day: a few, each made anew from its number, so that the same one stands at several items and desks.
+ghost use Rattle.random_days.specs.Drawn.{line_count};
+ghost use Rattle.random_days.specs.Pooled.{DrawnLine, DrawnLines};
+ghost use Rattle.random_days.specs.Seeds.{chosen};
+ghost use Rattle.script.specs.Allowed.{ScriptAllowed, sources_in};
+ghost use Rattle.script.specs.Layout.{max_lines, script_size};
+ghost use Rattle.std.specs.Prelude.{◌≡◌, ◌*◌, ◌<◌, ◌≤◌, length, drop};
+
 use super::seed::Seed;
 use rows::put_all;
 use script::{LINE_SIZE, Line};
@@ -17,7 +24,11 @@ pub struct Pool {
 
 impl Pool {
     // The number of a script for the item: most times one that asks by number only for items before it.
-    pub fn choose(self, seed: Seed, item: u64) -> u64 {
+    #[tactic(auto, unfolding(crate::specs::Seeds::chosen))]
+    pub fn choose(self, seed: Seed, item: u64) -> u64
+        ensures value { result ≡ chosen self.scripts seed.number item }
+        ensures below { 0 < self.scripts → result < self.scripts }
+    {
         let fitting = item.saturating_sub(1) / 2;
         if seed.at(0).percent(20) {
             seed.at(1).below(self.scripts)
@@ -28,7 +39,12 @@ impl Pool {
     }
 
     // Writes script `number` into a row; it asks by number only for items up to twice its own.
-    pub fn write_script(self, number: u64, row: &mut [u64]) {
+    pub fn write_script(self, number: u64, row: &mut [u64])
+        ensures count { line_count row.new ≤ max_lines }
+        ensures behind { drop script_size row.new ≡ drop script_size row.old }
+        ensures lines { script_size ≤ length row.old → DrawnLines (2 * number) row.new }
+        ensures allowed { script_size ≤ length row.old → ScriptAllowed (sources_in row.new) }
+    {
         let seed = self.seed.at(number);
         let count = draw_count(seed);
         put_all(row, 0, &[count]);
@@ -47,7 +63,9 @@ impl Pool {
     }
 }
 
-fn draw_count(seed: Seed) -> u64 {
+fn draw_count(seed: Seed) -> u64
+    ensures { result ≤ max_lines }
+{
     match seed.at(3).below(24) {
         0 => 0,
         1 => MANY_LINES,
@@ -55,7 +73,9 @@ fn draw_count(seed: Seed) -> u64 {
     }
 }
 
-fn draw_line(seed: Seed, last: u64) -> Line {
+fn draw_line(seed: Seed, last: u64) -> Line
+    ensures { DrawnLine last result }
+{
     let register = seed.at(0).below(USED_REGISTERS);
     let left = seed.at(1).below(USED_REGISTERS);
     let right = seed.at(2).below(USED_REGISTERS);

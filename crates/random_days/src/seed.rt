@@ -1,5 +1,6 @@
 // Random numbers that hang on a seed and a place alone (splitmix64), so that nothing is changed by drawing one.
-ghost use Rattle.std.specs.Prelude.{◌≡◌, ◌<◌, ◌≤◌, true, false};
+ghost use Rattle.random_days.specs.Seeds.{Happens, drawn_below, mix, number_at};
+ghost use Rattle.std.specs.Prelude.{◌≡◌, ◌<◌, ◌≤◌, ◌+◌, ◌-◌, ◌%◌, ◌^◌, true, false, Decides};
 
 const STEP: u64 = 0x9E37_79B9_7F4A_7C15;
 
@@ -20,7 +21,10 @@ impl Seed {
     }
 
     // One of the seeds that this one has, by its place.
-    pub fn at(self, place: u64) -> Seed {
+    #[tactic(auto, unfolding(crate::specs::Seeds::number_at))]
+    pub fn at(self, place: u64) -> Seed
+        ensures { result.number ≡ number_at self.number place }
+    {
         let steps = place.wrapping_add(1).wrapping_mul(STEP);
         Seed {
             number: mixed(self.number.wrapping_add(steps)),
@@ -28,8 +32,12 @@ impl Seed {
     }
 
     // A number below the bound; 0 if there is none.
+    #[tactic(auto, unfolding(crate::specs::Seeds::drawn_below))]
     pub fn below(self, bound: u64) -> u64
-        ensures { 0 < bound → result < bound }
+        ensures value { result ≡ drawn_below bound self.number }
+        ensures below { 0 < bound → result < bound }
+        ensures number { 0 < bound → result ≡ self.number % bound }
+        ensures nothing { bound ≡ 0 → result ≡ 0 }
     {
         if bound == 0 { 0 } else { self.number % bound }
     }
@@ -38,6 +46,7 @@ impl Seed {
     pub fn between(self, low: u64, high: u64) -> u64
         ensures low { low ≤ result }
         ensures high { low ≤ high → result ≤ high }
+        ensures number { low ≤ high → high - low + 1 < 2 ^ 64 → result ≡ low + self.number % (high - low + 1) }
     {
         let more = high.saturating_sub(low).saturating_add(1);
         low.saturating_add(self.below(more))
@@ -45,6 +54,7 @@ impl Seed {
 
     // True about so many times in a hundred.
     pub fn percent(self, chance: u64) -> bool
+        ensures happens { Decides result (Happens self.number chance) }
         ensures never { chance ≡ 0 → result ≡ false }
         ensures always { 100 ≤ chance → result ≡ true }
     {
@@ -52,7 +62,10 @@ impl Seed {
     }
 }
 
-fn mixed(number: u64) -> u64 {
+#[tactic(auto, unfolding(crate::specs::Seeds::mix))]
+fn mixed(number: u64) -> u64
+    ensures { result ≡ mix number }
+{
     let first = (number ^ (number >> 30)).wrapping_mul(FIRST_FACTOR);
     let second = (first ^ (first >> 27)).wrapping_mul(SECOND_FACTOR);
     second ^ (second >> 31)

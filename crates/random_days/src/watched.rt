@@ -3,8 +3,8 @@ ghost use Rattle.house.specs.Deeds.{deed_of};
 ghost use Rattle.house.specs.New.{NewHouse};
 ghost use Rattle.house.specs.Performed.{PerformedSo};
 ghost use Rattle.random_days.specs.Entries.{first_entries};
-ghost use Rattle.random_days.specs.Lists.{list_of};
-ghost use Rattle.std.specs.Prelude.{◌≡◌, ◌+◌, ◌^◌, ◌<◌, ◌≤◌, length, IfOk, Decides};
+ghost use Rattle.random_days.specs.Lists.{due_of, list_of};
+ghost use Rattle.std.specs.Prelude.{◌≡◌, ◌≤◌, length, IfOk, Decides};
 ghost use Rattle.store.specs.Rows.{count_of, room_of};
 
 use entry::ENTRY_SIZE;
@@ -127,7 +127,7 @@ impl Watched {
 
     // How many entries there are if a build keeps all that it ran.
     pub fn due(&self) -> u64
-        ensures { count_of self.now.before.rows.items + length (list_of self.now.house.ran.items) < 2 ^ 64 → result ≡ count_of self.now.before.rows.items + length (list_of self.now.house.ran.items) }
+        ensures { result ≡ due_of self.now.before.rows.items self.now.house.ran.items }
     {
         self.old_count().saturating_add(self.listed())
     }
