@@ -1,5 +1,5 @@
 -- How lists stand in a row of numbers. Assumes nothing: these are definitions.
-use Rattle.std.specs.Prelude.{ℕ, zero, suc, ◌+◌, ◌-◌, ◌*◌, min, List, [], ◌∷◌, ◌++◌, length, drop, replicate, slice_index, slice_set}
+use Rattle.std.specs.Prelude.{◌≡◌, ℕ, zero, suc, ◌+◌, ◌-◌, ◌*◌, ◌<◌, min, List, [], ◌∷◌, ◌++◌, length, drop, replicate, slice_index, slice_index_or, slice_set}
 use Rattle.std.specs.List.{flat_map}
 
 -- the row with these numbers from a place on; what would lie past its end is left out
@@ -23,3 +23,8 @@ padded n xs = xs ++ replicate (n - length xs) 0
 -- how a counted list is written down
 abbrev pub counted_out : {X : Type 0} → (X → List ℕ) → ℕ → ℕ → List X → List ℕ
 counted_out out size most ys = padded (1 + size * most) (length ys ∷ flat_map out ys)
+
+-- there are n pieces, and each call at the number of one gives that piece, of this size
+abbrev pub Gives : {P : Type 0} → (P → List ℕ) → (ℕ → P → Type 0) → ℕ → ℕ → List P → Type 0
+Gives {P} out Call size n pieces =
+    (length pieces ≡ n) × ((i : ℕ) (piece : P) → i < n → Call i piece → (slice_index_or pieces i piece ≡ piece) × (length (out piece) ≡ size))

@@ -4,8 +4,10 @@
 ghost use Rattle.std.specs.Prelude.{◌≡◌, ◌+◌, ◌-◌, ◌++◌, length, take, drop, replicate, OnOk, slice_index, slice_set};
 ghost use Rattle.rows.specs.Rows.{written_at};
 
+mod counting;
 mod row_parts;
 
+pub use counting::put_counted;
 pub use row_parts::{RowParts, parts};
 use std::alloc::AllocError;
 use std::iter::repeat_n;
