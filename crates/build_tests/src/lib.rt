@@ -8,7 +8,6 @@ mod desk;
 mod refused;
 #[cfg(test)]
 mod remembered;
-#[cfg(test)]
 mod spending;
 #[cfg(test)]
 mod wide;

@@ -1,7 +1,6 @@
 // What a build takes over from earlier ones, and what it does not: small days at a desk of four items, with room for four entries.
 use super::deeds::Deed;
 use super::desk::DeskInUse;
-use super::spending::spend_day;
 use build::Answer;
 use std::alloc::Global;
 use std::process::Abort;
@@ -22,7 +21,7 @@ const SUM_1_2: &[[u64; 4]] = &[[0, 0, 1, 0], [0, 1, 2, 0], [3, 2, 0, 1], [5, 2, 
 
 fn check_day(rt: &impl Abort, heap: Global, deeds: &[Deed]) -> Result<(), Fail> {
     let mut used = DeskInUse::new(heap, 4, 4, 0)?;
-    spend_day(&mut used, rt, deeds);
+    assert_eq!(rt; used.spend_day(deeds), None);
     Ok(())
 }
 

@@ -1,31 +1,18 @@
 // Days at a desk, whose builds answer, list and keep what they should.
-ghost use Rattle.build.specs.Build.{BuiltSo};
-ghost use Rattle.build_tests.specs.Did.{Did};
-ghost use Rattle.std.specs.Prelude.{◌≡◌};
-ghost use Rattle.store.specs.Rows.{count_of};
-ghost use Rattle.test_rows.specs.Laid.{Lists};
-ghost use Rattle.test_rows.specs.Spent.{Spent};
+ghost use Rattle.build_tests.specs.Did.{AsSaid, BuildTold, Did, Otherwise};
+ghost use Rattle.std.specs.Prelude.{Decides, MatchBool, MatchOption};
+ghost use Rattle.test_rows.specs.Spent.{Spent, StopsAt};
 
 use super::deeds::Deed;
 use super::desk::DeskInUse;
 use build::{Answer, build_item};
-use rows::{number_after, tail};
-use std::process::Abort;
+use store::entry_count;
+use test_rows::lists;
 
 impl DeskInUse {
-    // What a build answers, lists and keeps.
-    pub fn check_build(
-        &mut self,
-        rt: &impl Abort,
-        item: u64,
-        answer: Answer,
-        list: &[u64],
-        kept: u64,
-    )
-        ensures desk { self.new.desk ≡ self.old.desk }
-        ensures built { BuiltSo self.old.desk.row.items self.old.rows.items self.old.ran.items item answer self.new.rows.items self.new.ran.items }
-        ensures list { Lists self.new.ran.items list.now }
-        ensures kept { count_of self.new.rows.items ≡ kept }
+    // Builds the item. Whether it is answered so, these items are listed, and so many entries are kept then.
+    pub fn builds_so(&mut self, item: u64, answer: Answer, list: &[u64], kept: u64) -> bool
+        ensures { (told : Answer) × BuildTold item told self.old self.new × Decides result (AsSaid told answer list.now kept self.new) }
     {
         let told = build_item(
             self.desk.row.as_slice(),
@@ -33,33 +20,37 @@ impl DeskInUse {
             self.ran.as_mut_slice(),
             item,
         );
-        assert_eq!(rt; told, answer, "answer of {item}");
-        let ran = self.ran.as_slice();
-        assert_eq!(rt;
-            number_after(ran, 0, 0),
-            list.len() as u64,
-            "runs of {item}"
-        );
-        assert!(rt; tail(ran, 1).starts_with(list), "run of {item}");
-        assert_eq!(rt;
-            number_after(self.rows.as_slice(), 0, 0),
-            kept,
-            "kept after {item}"
-        );
+        told == answer
+            && lists(self.ran.as_slice(), list)
+            && entry_count(self.rows.as_slice()) == kept
     }
-}
 
-// No method: the file of its proof would belong to the type, which stands outside the tests.
-pub fn spend_day(used: &mut DeskInUse, rt: &impl Abort, deeds: &[Deed])
-    ensures { Spent Did deeds.now used.old used.new }
-{
-    for deed in deeds {
-        match *deed {
-            Deed::Write(item, value) => used.desk.write(item, value),
-            Deed::Give(item, lines) => used.desk.give(item, lines),
-            Deed::Build(item, answer, list, kept) => {
-                used.check_build(rt, item, answer, list, kept)
+    // The number of the first deed that goes otherwise than it says; None if all go so.
+    pub fn spend_day(&mut self, deeds: &[Deed]) -> Option<usize>
+        ensures { MatchOption result (Spent Did deeds.now self.old self.new) (λ number. StopsAt Did Otherwise deeds.now number self.old self.new) }
+    {
+        for (number, deed) in deeds.iter().enumerate() {
+            if !self.goes_so(*deed) {
+                return Some(number);
             }
+        }
+        None
+    }
+
+    // Whether the deed goes as it says; only a build can go otherwise.
+    fn goes_so(&mut self, deed: Deed) -> bool
+        ensures { MatchBool result (Did deed self.old self.new) (Otherwise deed self.old self.new) }
+    {
+        match deed {
+            Deed::Write(item, value) => {
+                self.desk.write(item, value);
+                true
+            }
+            Deed::Give(item, lines) => {
+                self.desk.give(item, lines);
+                true
+            }
+            Deed::Build(item, answer, list, kept) => self.builds_so(item, answer, list, kept),
         }
     }
 }

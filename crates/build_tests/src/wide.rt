@@ -25,9 +25,9 @@ fn many_paths(rt: HostRuntime) -> Result<(), Fail> {
     let mut used = chain(rt.alloc())?;
     used.desk.write(255, 1);
     let others = first_numbers(rt.alloc(), 253)?;
-    used.check_build(&rt, 253, Answer::Value(4), &[253, 254], 2);
-    used.check_build(&rt, 0, Answer::Value(0), others.as_slice(), 255);
-    used.check_build(&rt, 0, Answer::Value(0), &[], 255);
+    assert!(rt; used.builds_so(253, Answer::Value(4), &[253, 254], 2));
+    assert!(rt; used.builds_so(0, Answer::Value(0), others.as_slice(), 255));
+    assert!(rt; used.builds_so(0, Answer::Value(0), &[], 255));
     Ok(())
 }
 
@@ -36,6 +36,6 @@ fn many_paths(rt: HostRuntime) -> Result<(), Fail> {
 fn a_ring_of_256(rt: HostRuntime) -> Result<(), Fail> {
     let mut used = chain(rt.alloc())?;
     used.desk.give(255, &[[0, 0, 0, 0], [5, 0, 0, 0]]);
-    used.check_build(&rt, 0, Answer::Ring, &[], 0);
+    assert!(rt; used.builds_so(0, Answer::Ring, &[], 0));
     Ok(())
 }

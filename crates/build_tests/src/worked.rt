@@ -1,7 +1,6 @@
 // One day at a desk of eight items, with room for four entries.
 use super::deeds::Deed;
 use super::desk::DeskInUse;
-use super::spending::spend_day;
 use build::Answer;
 use std::alloc::{AllocError, Global};
 use std::test::Fail;
@@ -47,6 +46,6 @@ fn desk(heap: Global) -> Result<DeskInUse, AllocError> {
 #[test]
 fn the_worked_day(rt: HostRuntime) -> Result<(), Fail> {
     let mut used = desk(rt.alloc())?;
-    spend_day(&mut used, &rt, &DAY);
+    assert_eq!(rt; used.spend_day(&DAY), None);
     Ok(())
 }

@@ -1,5 +1,5 @@
 // Desks in which each item asks for the next one, once or many times.
-use super::desks::expect;
+use super::desks::builds_so;
 use clean::CleanAnswer;
 use std::alloc::{AllocError, Global};
 use std::test::Fail;
@@ -20,7 +20,7 @@ fn chains(rt: HostRuntime) -> Result<(), Fail> {
     for count in [1, 2, 3, 256] {
         let desk = chain(rt.alloc(), count)?;
         let list = first_numbers(rt.alloc(), count as u64)?;
-        expect(&rt, &desk, 0, CleanAnswer::Value(9), list.as_slice());
+        assert!(rt; builds_so(&desk, 0, CleanAnswer::Value(9), list.as_slice()));
     }
     Ok(())
 }
@@ -28,8 +28,8 @@ fn chains(rt: HostRuntime) -> Result<(), Fail> {
 #[test]
 fn from_the_middle_of_a_chain(rt: HostRuntime) -> Result<(), Fail> {
     let desk = chain(rt.alloc(), 256)?;
-    expect(&rt, &desk, 255, CleanAnswer::Value(9), &[255]);
-    expect(&rt, &desk, 253, CleanAnswer::Value(9), &[253, 254, 255]);
+    assert!(rt; builds_so(&desk, 255, CleanAnswer::Value(9), &[255]));
+    assert!(rt; builds_so(&desk, 253, CleanAnswer::Value(9), &[253, 254, 255]));
     Ok(())
 }
 
@@ -41,7 +41,7 @@ fn ladder_that_runs_out_of_lines(rt: HostRuntime) -> Result<(), Fail> {
         desk.give(item, &[[0, 0, item as u64 + 1, 0]; 32]);
     }
     let list = first_numbers(rt.alloc(), 256)?;
-    expect(&rt, &desk, 0, CleanAnswer::Value(0), list.as_slice());
+    assert!(rt; builds_so(&desk, 0, CleanAnswer::Value(0), list.as_slice()));
     Ok(())
 }
 
@@ -56,6 +56,6 @@ fn ladder_that_gives(rt: HostRuntime) -> Result<(), Fail> {
     }
     desk.give(255, &[[2, 0, 16, 0], [5, 0, 0, 0]]);
     let list = first_numbers(rt.alloc(), 256)?;
-    expect(&rt, &desk, 0, CleanAnswer::Value(16), list.as_slice());
+    assert!(rt; builds_so(&desk, 0, CleanAnswer::Value(16), list.as_slice()));
     Ok(())
 }

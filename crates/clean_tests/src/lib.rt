@@ -3,7 +3,6 @@
 
 #[cfg(test)]
 mod chains;
-#[cfg(test)]
 mod desks;
 #[cfg(test)]
 mod refusals;

@@ -1,5 +1,5 @@
 // Desks with items that are needed for themselves.
-use super::desks::expect;
+use super::desks::builds_so;
 use clean::CleanAnswer;
 use std::alloc::{AllocError, Global};
 use std::test::Fail;
@@ -20,9 +20,9 @@ fn rings(rt: HostRuntime) -> Result<(), Fail> {
     for count in [1, 2, 3, 256] {
         let desk = ring(rt.alloc(), count as usize)?;
         for item in [0, count / 2, count - 1] {
-            expect(&rt, &desk, item, CleanAnswer::Ring, &[]);
+            assert!(rt; builds_so(&desk, item, CleanAnswer::Ring, &[]));
         }
-        expect(&rt, &desk, count, CleanAnswer::Value(0), &[]);
+        assert!(rt; builds_so(&desk, count, CleanAnswer::Value(0), &[]));
     }
     Ok(())
 }
@@ -46,9 +46,9 @@ fn branch(heap: Global, value: u64) -> Result<Desk, AllocError> {
 #[test]
 fn ring_on_a_branch(rt: HostRuntime) -> Result<(), Fail> {
     let left_out = branch(rt.alloc(), 1)?;
-    expect(&rt, &left_out, 0, CleanAnswer::Value(1), &[0]);
+    assert!(rt; builds_so(&left_out, 0, CleanAnswer::Value(1), &[0]));
     let taken = branch(rt.alloc(), 2)?;
-    expect(&rt, &taken, 0, CleanAnswer::Ring, &[]);
+    assert!(rt; builds_so(&taken, 0, CleanAnswer::Ring, &[]));
     Ok(())
 }
 
@@ -64,14 +64,14 @@ fn at_register(heap: Global, number: u64) -> Result<Desk, AllocError> {
 #[test]
 fn asked_for_through_a_register(rt: HostRuntime) -> Result<(), Fail> {
     let itself = at_register(rt.alloc(), 2)?;
-    expect(&rt, &itself, 2, CleanAnswer::Ring, &[]);
-    expect(&rt, &itself, 1, CleanAnswer::Ring, &[]);
+    assert!(rt; builds_so(&itself, 2, CleanAnswer::Ring, &[]));
+    assert!(rt; builds_so(&itself, 1, CleanAnswer::Ring, &[]));
     let round = at_register(rt.alloc(), 1)?;
-    expect(&rt, &round, 2, CleanAnswer::Ring, &[]);
+    assert!(rt; builds_so(&round, 2, CleanAnswer::Ring, &[]));
     let written = at_register(rt.alloc(), 0)?;
-    expect(&rt, &written, 1, CleanAnswer::Value(0), &[1, 2]);
+    assert!(rt; builds_so(&written, 1, CleanAnswer::Value(0), &[1, 2]));
     let missing = at_register(rt.alloc(), u64::MAX)?;
-    expect(&rt, &missing, 2, CleanAnswer::Value(0), &[2]);
+    assert!(rt; builds_so(&missing, 2, CleanAnswer::Value(0), &[2]));
     Ok(())
 }
 
@@ -84,8 +84,8 @@ fn ring_after_values(rt: HostRuntime) -> Result<(), Fail> {
     desk.give(2, &[[0, 0, 1, 0], [0, 1, 2, 0]]);
     desk.give(3, &[[0, 0, 1, 0], [5, 0, 0, 0]]);
     desk.give(4, &[[0, 0, 1, 0], [5, 0, 0, 0]]);
-    expect(&rt, &desk, 0, CleanAnswer::Ring, &[3]);
-    expect(&rt, &desk, 3, CleanAnswer::Value(6), &[3]);
-    expect(&rt, &desk, 4, CleanAnswer::Value(6), &[4]);
+    assert!(rt; builds_so(&desk, 0, CleanAnswer::Ring, &[3]));
+    assert!(rt; builds_so(&desk, 3, CleanAnswer::Value(6), &[3]));
+    assert!(rt; builds_so(&desk, 4, CleanAnswer::Value(6), &[4]));
     Ok(())
 }

@@ -1,5 +1,5 @@
 // One desk of eight items, with three pairs of numbers in its first two items.
-use super::desks::expect;
+use super::desks::builds_so;
 use clean::CleanAnswer;
 use std::alloc::{AllocError, Global};
 use std::process::Abort;
@@ -38,7 +38,7 @@ type Expected = (u64, CleanAnswer, &'static [u64]);
 
 fn expect_all(rt: &impl Abort, desk: &Desk, builds: &[Expected]) {
     for (item, answer, list) in builds {
-        expect(rt, desk, *item, *answer, *list);
+        assert!(rt; builds_so(desk, *item, *answer, *list), "item {item}");
     }
 }
 

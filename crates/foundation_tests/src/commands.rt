@@ -32,7 +32,7 @@ fn places_of_a_write(rt: HostRuntime) -> Result<(), Fail> {
         file.extend_from_slice(&[0, desk, item])?;
         file.extend_from_slice(&[255; 8])?;
         assert_eq!(rt;
-            told(&rt, rt.alloc(), file.as_slice())?,
+            told(rt.alloc(), file.as_slice())?,
             expected,
             "{desk} {item}"
         );
@@ -44,7 +44,7 @@ fn places_of_a_write(rt: HostRuntime) -> Result<(), Fail> {
 fn places_of_a_build(rt: HostRuntime) -> Result<(), Fail> {
     for (desk, item, expected) in PLACES {
         let file = [2, 3, 4, 2, desk, item];
-        assert_eq!(rt; told(&rt, rt.alloc(), &file)?, expected, "{desk} {item}");
+        assert_eq!(rt; told(rt.alloc(), &file)?, expected, "{desk} {item}");
     }
     Ok(())
 }
@@ -53,7 +53,7 @@ fn places_of_a_build(rt: HostRuntime) -> Result<(), Fail> {
 fn places_of_a_script(rt: HostRuntime) -> Result<(), Fail> {
     for (desk, item, expected) in PLACES {
         let file = [2, 3, 4, 1, desk, item, 0];
-        assert_eq!(rt; told(&rt, rt.alloc(), &file)?, expected, "{desk} {item}");
+        assert_eq!(rt; told(rt.alloc(), &file)?, expected, "{desk} {item}");
     }
     Ok(())
 }
@@ -61,7 +61,7 @@ fn places_of_a_script(rt: HostRuntime) -> Result<(), Fail> {
 // Which entries there are is not known before the store is.
 #[test]
 fn throwing_out_is_not_refused_early(rt: HostRuntime) -> Result<(), Fail> {
-    assert_eq!(rt; told(&rt, rt.alloc(), &[2, 3, 4, 3, 255])?, None);
+    assert_eq!(rt; told(rt.alloc(), &[2, 3, 4, 3, 255])?, None);
     Ok(())
 }
 
@@ -99,7 +99,7 @@ fn scripts_in_a_file(rt: HostRuntime) -> Result<(), Fail> {
     for (index, (desk, item, count, first, expected)) in SCRIPTS.iter().enumerate() {
         let file = script_file(rt.alloc(), *desk, *item, *count, *first)?;
         assert_eq!(rt;
-            told(&rt, rt.alloc(), file.as_slice())?,
+            told(rt.alloc(), file.as_slice())?,
             *expected,
             "script {index}"
         );
@@ -144,7 +144,7 @@ fn entries_in_a_file(rt: HostRuntime) -> Result<(), Fail> {
     for (index, (lines, first, askings, expected)) in ENTRIES.iter().enumerate() {
         let file = entry_file(rt.alloc(), *lines, *first, *askings)?;
         assert_eq!(rt;
-            told(&rt, rt.alloc(), file.as_slice())?,
+            told(rt.alloc(), file.as_slice())?,
             *expected,
             "entry {index}"
         );

@@ -7,7 +7,6 @@ mod commands;
 mod counted;
 #[cfg(test)]
 mod cuts;
-#[cfg(test)]
 mod files;
 #[cfg(test)]
 mod head;

@@ -1,1 +1,3 @@
+pub mod Anew
+pub mod Lending
 pub mod Refusing

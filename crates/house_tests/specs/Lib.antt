@@ -1,4 +1,5 @@
 pub mod Drafted
 pub mod Refused
+pub mod Rows
 pub mod Stepped
 pub mod Told

@@ -1,65 +1,62 @@
-// Days of commands in a new house, and what is told, listed and kept.
-ghost use Rattle.house_tests.specs.Drafted.{drafted};
-ghost use Rattle.house_tests.specs.Stepped.{SpentAnew, Stepped, Went};
-ghost use Rattle.std.specs.Prelude.{◌≡◌, OnOk};
+// Days of commands, and the first step that goes otherwise than it says: what is told, listed and kept.
+ghost use Rattle.house_tests.specs.Stepped.{Otherwise, SpentAnew, Stepped, StoppedAnew, Unmade};
+ghost use Rattle.std.specs.Prelude.{◌≡◌, ℕ, Decides, IfOk, MatchBool, MatchOption, OnErr};
+ghost use Rattle.store.specs.Rows.{count_of};
 ghost use Rattle.test_rows.specs.Laid.{Lists};
-ghost use Rattle.test_rows.specs.Spent.{Spent};
+ghost use Rattle.test_rows.specs.Spent.{Spent, StopsAt};
 
 use super::draft::Draft;
 use super::lent_house::TestedHouse;
 use super::step::Step;
-use house::{HouseSize, Told};
-use rows::{number_after, tail};
-use std::alloc::Global;
-use std::process::Abort;
-use std::test::Fail;
+use house::HouseSize;
+use std::alloc::{AllocError, Global};
 use store::entry_count;
+use test_rows::lists;
 
-pub fn check_day(rt: &impl Abort, heap: Global, size: HouseSize, day: &[Step]) -> Result<(), Fail>
-    ensures { OnOk result (SpentAnew size day.now) }
+// The number of the first step that goes otherwise in a new house, if one does.
+pub fn day_in_new_house(
+    heap: Global,
+    size: HouseSize,
+    day: &[Step],
+) -> Result<Option<usize>, AllocError>
+    ensures { IfOk result (λ wrong. MatchOption wrong (SpentAnew size day.now) (λ i. StoppedAnew size day.now i)) }
 {
     let mut tested = TestedHouse::new(heap, size)?;
-    spend(&mut tested, rt, day)
-}
-
-// No method: the file of its proof would belong to the type, which stands outside the tests.
-pub fn spend(tested: &mut TestedHouse, rt: &impl Abort, day: &[Step]) -> Result<(), Fail>
-    ensures { OnOk result (Spent Stepped day.now tested.old.house tested.new.house) }
-{
-    for step in day {
-        tested.check_step(rt, *step)?;
-    }
-    Ok(())
+    tested.spend(day)
 }
 
 impl TestedHouse {
-    fn check_step(&mut self, rt: &impl Abort, step: Step) -> Result<(), Fail>
-        ensures { OnOk result (Stepped step self.old.house self.new.house) }
+    // The same from how the house is; the day ends with that step.
+    pub fn spend(&mut self, day: &[Step]) -> Result<Option<usize>, AllocError>
+        ensures went { IfOk result (λ wrong. MatchOption wrong (Spent Stepped day.now self.old.house self.new.house) (λ i. StopsAt Stepped Otherwise day.now i self.old.house self.new.house)) }
+        ensures unmade { OnErr result ((i : ℕ) × StopsAt Stepped Unmade day.now i self.old.house self.new.house) }
+    {
+        for (index, step) in day.iter().enumerate() {
+            if !self.take_step(*step)? {
+                return Ok(Some(index));
+            }
+        }
+        Ok(None)
+    }
+
+    // Whether all is as the step says.
+    fn take_step(&mut self, step: Step) -> Result<bool, AllocError>
+        ensures went { IfOk result (λ right. MatchBool right (Stepped step self.old.house self.new.house) (Otherwise step self.old.house self.new.house)) }
+        ensures unmade { OnErr result (Unmade step self.old.house self.new.house) }
     {
         match step {
-            Step::Do(draft, told) => self.check_told(rt, draft, told),
+            Step::Do(draft, told) => Ok(self.perform(draft)? == told),
             Step::Build(desk, item, told, ran, kept) => {
-                self.check_told(rt, Draft::Build(desk, item), told)?;
-                check_list(rt, self.house.ran.as_slice(), ran);
-                assert_eq!(rt; entry_count(self.house.rows.as_slice()), kept);
-                Ok(())
+                let so = self.perform(Draft::Build(desk, item))? == told;
+                Ok(so && self.left(ran, kept))
             }
         }
     }
 
-    fn check_told(&mut self, rt: &impl Abort, draft: Draft, told: Told) -> Result<(), Fail>
-        ensures went { OnOk result (Went (drafted draft) told self.old.house self.new.house) }
-        ensures size { self.new.house.size ≡ self.old.house.size }
+    // Whether the list that stands in its row and the count of the entries are these.
+    fn left(&self, ran: &[u64], kept: u64) -> bool
+        ensures { Decides result (Lists self.now.house.ran.items ran.now × (count_of self.now.house.rows.items ≡ kept)) }
     {
-        assert_eq!(rt; self.perform(draft)?, told);
-        Ok(())
+        lists(self.house.ran.as_slice(), ran) && entry_count(self.house.rows.as_slice()) == kept
     }
-}
-
-// The row begins with the length of the list and the list.
-fn check_list(rt: &impl Abort, row: &[u64], list: &[u64])
-    ensures { Lists row.now list.now }
-{
-    assert_eq!(rt; number_after(row, 0, 0), list.len() as u64);
-    assert!(rt; tail(row, 1).starts_with(list));
 }

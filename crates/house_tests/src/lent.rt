@@ -1,16 +1,16 @@
 // A house that is in use, whose rows are lent in good order or not, and commands that are refused there.
 ghost use Rattle.house_tests.specs.Drafted.{drafted};
-ghost use Rattle.house_tests.specs.Refused.{RefusedThere};
-ghost use Rattle.std.specs.Prelude.{◌≡◌, IfOk, OnOk};
+ghost use Rattle.house_tests.specs.Refused.{LentSo, NotRefusedThere, RefusedThere};
+ghost use Rattle.house_tests.specs.Rows.{SameRows};
+ghost use Rattle.house_tests.specs.Told.{told_as_numbers};
+ghost use Rattle.std.specs.Prelude.{◌≡◌, Decides, IfOk, MatchBool};
 
 use super::draft::Draft;
-use super::lent_house::{TestedHouse, same_rows, told_numbers};
+use super::lent_house::{TestedHouse, copy_rows, same_rows, told_numbers};
 use super::scripts::TWICE;
-use house::HouseSize;
+use house::{House, HouseSize, Told};
 use rows::put_all;
 use std::alloc::{AllocError, Global};
-use std::process::Abort;
-use std::test::Fail;
 
 // Two desks of three items, and room for two entries.
 const SIZE: HouseSize = HouseSize {
@@ -78,7 +78,7 @@ static USE: [Draft; 3] = [
 
 // The house after these commands, whose rows are then lent as told.
 fn lent_house(heap: Global, lent: Lent) -> Result<TestedHouse, AllocError>
-    ensures { IfOk result (λ tested. tested.house.size ≡ SIZE) }
+    ensures { IfOk result (λ tested. (tested.house.size ≡ SIZE) × LentSo SIZE lent tested.house.rows.items tested.house.ran.items) }
 {
     let mut tested = TestedHouse::new(heap, SIZE)?;
     for draft in USE.iter() {
@@ -90,21 +90,24 @@ fn lent_house(heap: Global, lent: Lent) -> Result<TestedHouse, AllocError>
     Ok(tested)
 }
 
-// The command is refused with this number at this place, and every number of the three rows is as it was.
-pub fn check_refused(
-    rt: &impl Abort,
+// Whether the command is refused with this number at this place, and every number of the three rows is as it was.
+pub fn is_refused(
     heap: Global,
     lent: Lent,
     draft: Draft,
     refusal: (u64, u64),
-) -> Result<(), Fail>
-    ensures { OnOk result (RefusedThere SIZE (drafted draft) refusal) }
+) -> Result<bool, AllocError>
+    ensures { IfOk result (λ refused. MatchBool refused (RefusedThere SIZE lent (drafted draft) refusal) (NotRefusedThere SIZE lent (drafted draft) refusal)) }
 {
     let mut tested = lent_house(heap, lent)?;
-    let before = lent_house(heap, lent)?;
+    let before = copy_rows(heap, &tested.house)?;
     let told = tested.perform(draft)?;
-    let (number, place) = refusal;
-    assert_eq!(rt; told_numbers(told), (3, number, place));
-    assert!(rt; same_rows(&tested.house, &before.house));
-    Ok(())
+    Ok(refused_so(told, refusal, &tested.house, &before))
+}
+
+// Whether this is told, and the rows are the same before and after.
+fn refused_so(told: Told, refusal: (u64, u64), after: &House, before: &House) -> bool
+    ensures { Decides result ((told_as_numbers told ≡ (3, refusal.0, refusal.1)) × SameRows after.now before.now) }
+{
+    told_numbers(told) == (3, refusal.0, refusal.1) && same_rows(after, before)
 }

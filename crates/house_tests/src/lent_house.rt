@@ -2,8 +2,9 @@
 ghost use Rattle.house.specs.New.{NewHouse};
 ghost use Rattle.house.specs.Performed.{PerformedSo};
 ghost use Rattle.house_tests.specs.Drafted.{carries_lines, drafted};
+ghost use Rattle.house_tests.specs.Rows.{SameRows};
 ghost use Rattle.house_tests.specs.Told.{told_as_numbers};
-ghost use Rattle.std.specs.Prelude.{◌≡◌, true, Decides, IfOk, OnErr};
+ghost use Rattle.std.specs.Prelude.{◌≡◌, length, true, Decides, IfOk, OnErr};
 
 use super::draft::Draft;
 use house::{House, HouseSize, Told};
@@ -28,6 +29,7 @@ impl TestedHouse {
 
     pub fn perform(&mut self, draft: Draft) -> Result<Told, AllocError>
         ensures size { self.new.house.size ≡ self.old.house.size }
+        ensures lengths { (length self.new.house.rows.items ≡ length self.old.house.rows.items) × (length self.new.house.ran.items ≡ length self.old.house.ran.items) }
         ensures performed { IfOk result (λ told. PerformedSo self.old.house.size (drafted draft) self.old.house.desks.items self.old.house.rows.items self.old.house.ran.items told self.new.house.desks.items self.new.house.rows.items self.new.house.ran.items) }
         ensures unmoved { OnErr result ((self.new.house ≡ self.old.house) × (carries_lines draft ≡ true)) }
     {
@@ -36,8 +38,20 @@ impl TestedHouse {
     }
 }
 
+// A house with the rows of this one.
+pub fn copy_rows(heap: Global, house: &House) -> Result<House, AllocError>
+    ensures { IfOk result (λ copy. SameRows copy house.now) }
+{
+    Ok(House {
+        size: house.size,
+        desks: house.desks.as_slice().iter().copied().collect(heap)?,
+        rows: house.rows.as_slice().iter().copied().collect(heap)?,
+        ran: house.ran.as_slice().iter().copied().collect(heap)?,
+    })
+}
+
 pub fn same_rows(house: &House, other: &House) -> bool
-    ensures { Decides result ((house.now.desks.items ≡ other.now.desks.items) × (house.now.rows.items ≡ other.now.rows.items) × (house.now.ran.items ≡ other.now.ran.items)) }
+    ensures { Decides result (SameRows house.now other.now) }
 {
     house.desks.as_slice() == other.desks.as_slice()
         && house.rows.as_slice() == other.rows.as_slice()

@@ -1,17 +1,14 @@
 // Tests of whole days of commands, on examples whose answers come from the rules.
 #![tactic(auto)]
 
-#[cfg(test)]
 mod days;
 mod draft;
-#[cfg(test)]
 mod lent;
 mod lent_house;
 #[cfg(test)]
 mod limits;
 #[cfg(test)]
 mod refusals;
-#[cfg(test)]
 mod scripts;
 #[cfg(test)]
 mod sharing;

@@ -1,5 +1,5 @@
 // Houses and rows at their limits: what is just allowed, no room, too many items to count, and a row longer than its list.
-use super::days::check_day;
+use super::days::day_in_new_house;
 use super::draft::Draft;
 use super::lent_house::TestedHouse;
 use super::scripts::{SUM, TWICE};
@@ -65,12 +65,14 @@ static NOTHING_KEPT: [Step; 10] = [
 
 #[test]
 fn up_to_the_limits(rt: HostRuntime) -> Result<(), Fail> {
-    check_day(&rt, rt.alloc(), SMALL, &ALLOWED)
+    assert_eq!(rt; day_in_new_house(rt.alloc(), SMALL, &ALLOWED)?, None);
+    Ok(())
 }
 
 #[test]
 fn a_house_of_no_room(rt: HostRuntime) -> Result<(), Fail> {
-    check_day(&rt, rt.alloc(), NO_ROOM, &NOTHING_KEPT)
+    assert_eq!(rt; day_in_new_house(rt.alloc(), NO_ROOM, &NOTHING_KEPT)?, None);
+    Ok(())
 }
 
 // A row of more numbers than can be counted is refused before any memory is taken.

@@ -2,7 +2,7 @@
 use super::draft::Draft;
 use super::lent::{
     BROKEN, FULL, FULL_SHORT, LISTLESS, Lent, NO_LIST, NOTHING, OVERFULL, OVERFULL_LISTLESS,
-    OVERFULL_SHORT, SHORT, WHOLE, check_refused,
+    OVERFULL_SHORT, SHORT, WHOLE, is_refused,
 };
 use super::scripts::SUM;
 use std::alloc::Global;
@@ -183,7 +183,10 @@ static IMPORTS: [Case; 30] = [
 
 fn check_cases(rt: &impl Abort, heap: Global, cases: &[Case]) -> Result<(), Fail> {
     for (draft, lent, number, place) in cases {
-        check_refused(rt, heap, *lent, *draft, (*number, *place))?;
+        assert!(rt;
+            is_refused(heap, *lent, *draft, (*number, *place))?,
+            "refusal {number} at {place}"
+        );
     }
     Ok(())
 }

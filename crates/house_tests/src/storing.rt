@@ -1,5 +1,4 @@
 // Imports and removals, and what the store's row holds after them, number for number.
-use super::days::spend;
 use super::draft::Draft;
 use super::lent_house::TestedHouse;
 use super::step::Step;
@@ -68,9 +67,9 @@ fn check_stored(rt: &impl Abort, house: &House, answers: &[u64]) {
 #[test]
 fn imports_and_removals(rt: HostRuntime) -> Result<(), Fail> {
     let mut tested = TestedHouse::new(rt.alloc(), SIZE)?;
-    spend(&mut tested, &rt, &FILLING)?;
+    assert_eq!(rt; tested.spend(&FILLING)?, None);
     check_stored(&rt, &tested.house, &[9, 7]);
-    spend(&mut tested, &rt, &REMOVING)?;
+    assert_eq!(rt; tested.spend(&REMOVING)?, None);
     check_stored(&rt, &tested.house, &[7]);
     Ok(())
 }

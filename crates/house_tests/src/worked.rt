@@ -1,5 +1,5 @@
 // One whole day at a desk of eight items, with room for four entries.
-use super::days::check_day;
+use super::days::day_in_new_house;
 use super::draft::Draft;
 use super::scripts::SUM;
 use super::step::Step;
@@ -55,5 +55,6 @@ static DAY: [Step; 20] = [
 
 #[test]
 fn the_worked_day(rt: HostRuntime) -> Result<(), Fail> {
-    check_day(&rt, rt.alloc(), SIZE, &DAY)
+    assert_eq!(rt; day_in_new_house(rt.alloc(), SIZE, &DAY)?, None);
+    Ok(())
 }

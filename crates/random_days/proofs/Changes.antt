@@ -16,13 +16,15 @@ use Rattle.entry.specs.Layout.{asking_size, entry_size, result_at}
 use Rattle.entry.specs.Replay.{difference, differs}
 use Rattle.entry.specs.Rows.{askings_in, entry_in, first_asking}
 use Rattle.entry.specs.declared.asking.Asking.{Asking}
+use Rattle.entry.proofs.Askings.{first_local}
 use Rattle.store.specs.Faults.{askings_fault, entry_fault}
 use Rattle.random_days.specs.Recorded.{Believed}
 use Rattle.random_days.specs.Spoiled.{EntryTold, ManyAskings, asked_in, asking_place, raised}
 use Rattle.random_days.specs.declared.expected.Expected.{Expected}
 use Rattle.random_days.specs.declared.expected.Expected.TheVariants.{Refused}
 use Rattle.random_days.proofs.Faults.{none_script}
-use Rattle.random_days.proofs.Records.{allowed_same, asking_local, between_stays, script_same, take_less}
+use Rattle.random_days.proofs.Fronts.{between_stays, take_less}
+use Rattle.random_days.proofs.Records.{allowed_same, script_same}
 use Rattle.random_days.proofs.Spoils.{written_one}
 
 pub as_told : (expected : Expected) (n asking : ℕ) (new : List ℕ) → expected ≡ Refused (NotHonest n) → n ≡ asking → entry_fault new ≡ Some (NotHonest asking) → EntryTold expected new
@@ -135,7 +137,7 @@ result_told old new room believed is =
     let those : take (asking_size * n) (drop at new) ≡ take (asking_size * n) (drop at old) =
     sym (take-take (asking_size * n) 64 (drop at new) (omega arith)) ∙ ap (take (asking_size * n)) all ∙ take-take (asking_size * n) 64 (drop at old) (omega arith) in
     let askings : askings_in (drop script_size new) ≡ askings_in (drop script_size old) =
-    named new n count few ∙ chunks_same first_asking asking_size asking_local n (drop at new) (drop at old) those ∙ sym (named old n refl few) in
+    named new n count few ∙ chunks_same first_asking asking_size first_local n (drop at new) (drop at old) those ∙ sym (named old n refl few) in
     let differing : difference (entry_in new) ≡ Some n =
     (λ j. differs 0 (task_of (script_same new old same j)) (askings j) (there old new result_at v room is (omega arith) (omega arith) j))
     ∙ other_result 0 (task_of (script_in old)) (askings_in (drop script_size old)) (get_or old result_at 0) v believed.2 (raised_other (get_or old result_at 0))

@@ -15,9 +15,10 @@ use Rattle.script.specs.declared.line.Line.{Line}
 use Rattle.script.specs.declared.line.Line.TheVariants.{Ask, AskAt, Give, Number, Sum, Unless}
 use Rattle.script.specs.declared.source.SourceLine.{SourceLine}
 use Rattle.script.specs.declared.source.SourceLine.TheVariants.{Known, Unknown}
-use Rattle.random_days.specs.Pooled.{DrawnLine, DrawnLines, DrawnSource, Gives}
+use Rattle.random_days.specs.Pooled.{DrawnLine, DrawnLines, DrawnSource, IsGive}
 use Rattle.random_days.proofs.Fronts.{first_kept, first_written}
-use Rattle.random_days.proofs.Spoils.{source_written, take_before, written_one}
+use Rattle.random_days.proofs.Fronts.{take_less}
+use Rattle.random_days.proofs.Spoils.{source_written, written_one}
 
 -- a line that is written is read back as one from outside
 source_back : (row : List ℕ) (at : ℕ) (l : Line) → at + 4 ≤ length row → first_source (drop at (written_at row at (line_out l))) ≡ Known l
@@ -31,7 +32,7 @@ source_back row at (Give r) fits = source_written row at 5 r 0 0 fits
 -- a number before those that are written stays
 pub before_stays : (row : List ℕ) (at i : ℕ) (ns : List ℕ) → at + length ns ≤ length row → i < at → get_or (written_at row at ns) i 0 ≡ get_or row i 0
 before_stays row at i ns fits h =
-    sym (get_or-take at (written_at row at ns) i 0 h) ∙ ap (λ xs. get_or xs i 0) (take_before row at ns fits) ∙ get_or-take at row i 0 h
+    sym (get_or-take at (written_at row at ns) i 0 h) ∙ ap (λ xs. get_or xs i 0) (take_less row at at ns fits (omega arith)) ∙ get_or-take at row i 0 h
 
 -- and so does a line
 source_stays : (row : List ℕ) (at i : ℕ) (ns : List ℕ) → at + length ns ≤ length row → i + 4 ≤ at → first_source (drop i (written_at row at ns)) ≡ first_source (drop i row)
@@ -60,7 +61,7 @@ begun_none old count last {row} few is =
       lines = λ room k h. absurd (omega arith);
     }
 
-pub begun_more : (old : List ℕ) (count last i at : ℕ) (l : Line) {row new : List ℕ} → i < count → count ≤ max_lines → DrawnLine last l → (i + 1 ≡ count → Gives l) → at ≡ 1 + line_size * i → new ≡ written_at row at (line_out l) → Begun old count last i row → Begun old count last (i + 1) new
+pub begun_more : (old : List ℕ) (count last i at : ℕ) (l : Line) {row new : List ℕ} → i < count → count ≤ max_lines → DrawnLine last l → (i + 1 ≡ count → IsGive l) → at ≡ 1 + line_size * i → new ≡ written_at row at (line_out l) → Begun old count last i row → Begun old count last (i + 1) new
 begun_more old count last i at l {row} {new} inside few drawn gives place is so_far =
     let four = length_line l in
     let here = 1 + line_size * i in

@@ -18,29 +18,17 @@ use Rattle.entry.specs.Entry.{Honest, replays}
 use Rattle.entry.specs.Layout.{asking_size, entry_size, result_at}
 use Rattle.entry.specs.Rows.{askings_in, first_asking}
 use Rattle.entry.specs.declared.asking.Asking.{Asking}
+use Rattle.entry.proofs.Askings.{first_local}
 use Rattle.random_days.specs.Recorded.{Believed}
 use Rattle.random_days.proofs.Faults.{few_lines}
+use Rattle.random_days.proofs.Fronts.{between_stays, take_less}
 use Rattle.random_days.proofs.Pools.{before_stays}
-use Rattle.random_days.proofs.Spoils.{take_before, written_one}
-
--- what stands before numbers that are written stays
-pub take_less : (row : List ℕ) (at m : ℕ) (ns : List ℕ) → at + length ns ≤ length row → m ≤ at → take m (written_at row at ns) ≡ take m row
-take_less row at m ns fits h =
-    sym (take-take m at (written_at row at ns) h) ∙ ap (take m) (take_before row at ns fits) ∙ take-take m at row h
-
-pub between_stays : (row : List ℕ) (m n : ℕ) (ns : List ℕ) → m + n + length ns ≤ length row → take n (drop m (written_at row (m + n) ns)) ≡ take n (drop m row)
-between_stays row m n ns fits =
-    sym (drop-take m n (written_at row (m + n) ns)) ∙ ap (drop m) (take_before row (m + n) ns fits) ∙ drop-take m n row
+use Rattle.random_days.proofs.Spoils.{written_one}
 
 source_local : (xs : List ℕ) → first_source xs ≡ first_source (take line_size xs)
 source_local xs =
     let same : (j : ℕ) → j < line_size → get_or (take line_size xs) j 0 ≡ get_or xs j 0 = λ j h. get_or-take line_size xs j 0 h in
     rw (same 0 (omega arith), same 1 (omega arith), same 2 (omega arith), same 3 (omega arith)) refl
-
-pub asking_local : (xs : List ℕ) → first_asking xs ≡ first_asking (take asking_size xs)
-asking_local xs =
-    let same : (j : ℕ) → j < asking_size → get_or (take asking_size xs) j 0 ≡ get_or xs j 0 = λ j h. get_or-take asking_size xs j 0 h in
-    rw (same 0 (omega arith), same 1 (omega arith)) refl
 
 -- a script is read from as many numbers as it has room for
 pub script_same : (xs ys : List ℕ) → take script_size xs ≡ take script_size ys → script_in xs ≡ script_in ys
@@ -93,7 +81,7 @@ asked_more row i n k v {row₁} {row₂} room inside counts writes =
     let last : first_asking (drop (asking_size * i) (drop at row₂)) ≡ record { item = k; answer = v } =
     ap first_asking (drop-drop (asking_size * i) at row₂ ∙ ap (drop here) writes) ∙ asking in
     chunks_more first_asking asking_size i (drop at row₂)
-    ∙ (λ j. chunks_same first_asking asking_size asking_local i (drop at row₂) (drop at row) kept j ++ last j ∷ [])
+    ∙ (λ j. chunks_same first_asking asking_size first_local i (drop at row₂) (drop at row) kept j ++ last j ∷ [])
 
 pub recorded_more : (old row : List ℕ) (i n k v at : ℕ) (g g₁ : Registers) (w : Waiting) {row₁ row₂ : List ℕ} → entry_size ≤ length old → i < max_askings → rest (script_in row) g ≡ asks k (λ u. rest (script_in row) (answered w u)) → g.next < w.registers.next → g₁ ≡ answered w v → row₁ ≡ written_at row script_size (n ∷ []) → row₂ ≡ written_at row₁ at (k ∷ v ∷ []) → n ≡ i + 1 → at ≡ script_size + 1 + asking_size * i → Recorded old i g row → Recorded old (i + 1) g₁ row₂
 unfolding replays
@@ -146,7 +134,7 @@ recorded_end old row i v g {new} room inside ok ends writes so_far =
     let askings : askings_in (drop script_size new) ≡ chunks first_asking asking_size i (drop at row) ++ [] =
     ap (λ m. chunks first_asking asking_size m (drop 1 (drop script_size new))) count
     ∙ ap (λ xs. chunks first_asking asking_size i xs) (drop-drop 1 script_size new)
-    ∙ chunks_same first_asking asking_size asking_local i (drop at new) (drop at row) those
+    ∙ chunks_same first_asking asking_size first_local i (drop at new) (drop at row) those
     ∙ sym (append-nil (chunks first_asking asking_size i (drop at row))) in
     let named : get_or new script_size 0 ≡ i = sym (get_or-drop script_size new 0 0) ∙ many in (
       allowed_same new old front ok,

@@ -1,14 +1,15 @@
 -- Laws of rows that are made so that they are refused. Assumes nothing.
 use Rattle.std.proofs.Common.{◌≡◌, ℕ, ◌+◌, ◌*◌, ◌<◌, ◌≤◌, max, List, [], ◌∷◌, length, get_or, take, drop, set, Some, sym, refl, ap, ◌∙◌, arith}
-use Rattle.std.proofs.lemmas.List.{drop-take, get_or-set_same, get_or-take, length-take-le, take-take, take_at}
+use Rattle.std.proofs.lemmas.List.{get_or-set_same}
 use Rattle.std.proofs.lemmas.Bool.Decides.{nat_tests}
 use Rattle.rows.specs.Rows.{written_at}
-use Rattle.rows.proofs.Written.{drop_written, getD_written, length_written, take_written}
+use Rattle.rows.proofs.Written.{drop_written, getD_written, length_written}
 use Rattle.script.proofs.Lines.{source_drop}
 use Rattle.script.specs.Allowed.{first_source, line_fault, source_line}
 use Rattle.script.specs.Layout.{line_size, max_askings, max_lines, script_size}
 use Rattle.script.specs.declared.refusal.Refusal.{Refusal}
 use Rattle.script.specs.declared.refusal.Refusal.TheVariants.{NoSuchRegister, SkipsTooMany, UnknownKind}
+use Rattle.random_days.proofs.Fronts.{between_stays, first_kept}
 use Rattle.random_days.specs.Spoiled.{FaultyLine, ManyAskings, ManyLines, asked_in, line_place, lines_then}
 
 -- one number written is one set
@@ -35,24 +36,6 @@ many_askings old n {new} is many long =
     let there : asked_in new ≡ n = ap asked_in set_one ∙ get_or-set_same old script_size n 0 long in
     (omega (arith, there), set_one ∙ ap (set old script_size) (sym there))
 
--- what stands before the numbers that are written stays
-pub take_before : (row : List ℕ) (at : ℕ) (ns : List ℕ) → at + length ns ≤ length row → take at (written_at row at ns) ≡ take at row
-take_before row at ns fits =
-    sym (take-take at (at + length ns) (written_at row at ns) (omega arith))
-    ∙ ap (take at) (take_written row at ns fits)
-    ∙ take_at (take at row) ns at (length-take-le at row (omega arith))
-
-front_stays : (row : List ℕ) (n : ℕ) (ns : List ℕ) → 1 + n + length ns ≤ length row → take n (drop 1 (written_at row (1 + n) ns)) ≡ take n (drop 1 row)
-front_stays row n ns fits =
-    sym (drop-take 1 n (written_at row (1 + n) ns)) ∙ ap (drop 1) (take_before row (1 + n) ns fits) ∙ drop-take 1 n row
-
--- the first number is no part of a line
-first_stays : (row : List ℕ) (n : ℕ) (ns : List ℕ) → 1 + n + length ns ≤ length row → get_or (written_at row (1 + n) ns) 0 0 ≡ get_or row 0 0
-first_stays row n ns fits =
-    sym (get_or-take (1 + n) (written_at row (1 + n) ns) 0 0 (omega arith))
-    ∙ ap (λ xs. get_or xs 0 0) (take_before row (1 + n) ns fits)
-    ∙ get_or-take (1 + n) row 0 0 (omega arith)
-
 -- a count of lines, and one line that has a fault
 pub faulty_line : (old : List ℕ) (count many line kind r a b at : ℕ) (made : List ℕ × Refusal) (refusal : Refusal) {row new : List ℕ} → made ≡ (kind ∷ r ∷ a ∷ b ∷ [], refusal) → line_fault line (source_line kind r a b) ≡ Some refusal → script_size ≤ length old → count ≡ get_or old 0 0 → count ≤ max_lines → (0 < count → line < count) → (count ≡ 0 → line ≡ 0) → at ≡ line_place line → many ≡ max count 1 → row ≡ written_at old 0 (many ∷ []) → new ≡ written_at row at made.0 → FaultyLine refusal line old new
 faulty_line old count many line kind r a b at made refusal {row} {new} numbers fault long is few inside none place some_line counts written =
@@ -68,10 +51,10 @@ faulty_line old count many line kind r a b at made refusal {row} {new} numbers f
     let then : max count 1 ≡ lines_then old = ap (λ n. max n 1) is in
     let kept : drop 1 row ≡ drop 1 old = ap (drop 1) counts ∙ drop_written old 0 some 1 (omega arith) in
     let later : drop behind row ≡ drop behind old = ap (drop behind) counts ∙ drop_written old 0 some behind (omega arith) in (
-      ap (λ xs. get_or xs 0 0) same ∙ first_stays row (line_size * line) ns fits ∙ first ∙ then,
+      ap (λ xs. get_or xs 0 0) same ∙ first_kept row (line_place line) ns (omega arith) ∙ first ∙ then,
       omega (arith, then),
       ap (λ xs. line_fault line (first_source (drop (line_place line) xs))) same ∙ ap (line_fault line) (source_written row (line_place line) kind r a b fits) ∙ fault,
-      ap before same ∙ front_stays row (line_size * line) ns fits ∙ ap (take (line_size * line)) kept,
+      ap before same ∙ between_stays row 1 (line_size * line) ns fits ∙ ap (take (line_size * line)) kept,
       ap (drop behind) same ∙ drop_written row (line_place line) ns behind (omega arith) ∙ later,
     )
 

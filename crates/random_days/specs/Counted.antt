@@ -1,5 +1,7 @@
 -- What counting one refusal changes. Assumes nothing: these are definitions.
 use Rattle.std.specs.Prelude.{◌≡◌, ℕ, ◌+◌, ◌-◌, ◌^◌, min}
+use Rattle.house.specs.declared.perform.Told.{Told}
+use Rattle.house.specs.declared.perform.Told.TheVariants.{Done, Refused, Ring, Value}
 use Rattle.script.specs.declared.refusal.Refusal.{Refusal}
 use Rattle.script.specs.declared.refusal.Refusal.TheVariants.{Unreadable, NoSuchDesk, NoSuchItem, TooManyLines, UnknownKind, NoSuchRegister, SkipsTooMany, NoSuchEntry, TooManyAskings, NotHonest, StoreFull, StoreTooShort, StoreOverfull, ListTooShort}
 use Rattle.random_days.specs.declared.counter.Counter.{Counter}
@@ -28,3 +30,10 @@ Counted (StoreFull room) old new = OneMore old.store_full new.store_full × (new
 Counted (StoreTooShort n) old new = new ≡ old
 Counted (StoreOverfull count) old new = new ≡ old
 Counted (ListTooShort n) old new = new ≡ old
+
+-- a refusal that was told is counted, and what else was told leaves the counters
+abbrev pub CountedTold : Told → Refusals → Refusals → Type 0
+CountedTold (Refused refusal) old new = Counted refusal old new
+CountedTold Done old new = new ≡ old
+CountedTold (Value v) old new = new ≡ old
+CountedTold Ring old new = new ≡ old

@@ -1,13 +1,20 @@
 -- What is drawn of a command, and what is then expected of it. Assumes nothing: these are definitions.
-use Rattle.std.specs.Prelude.{◌≡◌, ℕ, ◌+◌, ◌-◌, ◌%◌, ◌^◌, ◌<◌, ◌≤◌, ◌⊎◌, List, Option, Some, None, cond, nat_lt, slice_index}
-use Rattle.script.specs.Layout.{max_lines}
+use Rattle.std.specs.Prelude.{◌≡◌, ℕ, ◌+◌, ◌-◌, ◌*◌, ◌%◌, ◌^◌, ◌<◌, ◌≤◌, ◌⊎◌, min, List, Option, Some, None, length, take, drop, cond, nat_lt, slice_index}
+use Rattle.script.specs.Allowed.{ScriptAllowed, sources_in}
+use Rattle.script.specs.Layout.{max_askings, max_lines, script_size}
 use Rattle.script.specs.declared.refusal.Refusal.{Refusal}
 use Rattle.script.specs.declared.refusal.Refusal.TheVariants.{NoSuchDesk, NoSuchEntry, NoSuchItem, NoSuchRegister, NotHonest, SkipsTooMany, StoreFull, TooManyAskings, TooManyLines, UnknownKind}
+use Rattle.entry.specs.Layout.{entry_size}
 use Rattle.house.specs.Faults.{place_fault}
 use Rattle.house.specs.declared.size.HouseSize.{HouseSize}
 use Rattle.house.specs.declared.size.Place.{Place}
-use Rattle.store.specs.Rows.{count_of}
-use Rattle.random_days.specs.Seeds.{Happens, number_at}
+use Rattle.rows.specs.Rows.{written_at}
+use Rattle.store.specs.Rows.{count_of, entry_at}
+use Rattle.random_days.specs.Judged.{first_told}
+use Rattle.random_days.specs.Pooled.{DrawnLines}
+use Rattle.random_days.specs.Recorded.{Believed, RecordedEntry}
+use Rattle.random_days.specs.Seeds.{Happens, chosen, number_at}
+use Rattle.random_days.specs.Spoiled.{ChangedEntry, EntryTold, ScriptTold, SpoiledScript, asked_in}
 use Rattle.random_days.specs.declared.drafts.Draft.{Draft}
 use Rattle.random_days.specs.declared.drafts.Kind.{Kind}
 use Rattle.random_days.specs.declared.drafts.Kind.TheVariants.{Write, Script, Build, Remove, Import}
@@ -117,3 +124,58 @@ FaultBy number Open = ⊥
 FaultBy number (Refused (NoSuchDesk desk)) = number % 60 ≡ 0
 FaultBy number (Refused (NoSuchItem item)) = number % 60 ≡ 1
 FaultBy number (Refused refusal) = ⊥
+
+-- whether the place is there hangs on the number of its seed
+abbrev pub PlaceBy : HouseSize → ℕ → Place → Type 0
+PlaceBy z number at = 0 < z.desks → 0 < z.items → FaultBy number (expected_by (place_fault z at.desk at.item))
+
+-- the same of a command at a place
+abbrev pub PlacedBy : HouseSize → ℕ → Kind → Type 0
+PlacedBy z number (Write at value) = PlaceBy z number at
+PlacedBy z number (Script at) = PlaceBy z number at
+PlacedBy z number (Build at) = PlaceBy z number at
+PlacedBy z number (Remove entry) = Unit {0}
+PlacedBy z number Import = Unit {0}
+
+-- the plans of the desks stand behind the scripts among the seeds of the pool; every second desk is alike
+abbrev pub plan_of : ℕ → ℕ
+plan_of desk = min (desk * (desk % 2) + 1000) (2 ^ 64 - 1)
+
+-- the number of the seed that the first command of an item is drawn by
+abbrev pub first_seed : ℕ → Place → ℕ
+first_seed number place = number_at (number_at number (plan_of place.desk)) place.item
+
+-- item 0 and one in four are written; a script has the lines of the one that is chosen for the item
+abbrev pub FirstBy : (scripts number : ℕ) → Place → Kind → List ℕ → List ℕ → Type 0
+FirstBy scripts number place (Write at value) old new = (place.item ≡ 0) ⊎ Happens (number_at number 0) 25
+FirstBy scripts number place (Script at) old new = (¬ Happens (number_at number 0) 25) × (script_size ≤ length old → DrawnLines (2 * chosen scripts (number_at number 1) place.item) new × ScriptAllowed (sources_in new))
+FirstBy scripts number place (Build at) old new = ⊥
+FirstBy scripts number place (Remove entry) old new = ⊥
+FirstBy scripts number place Import old new = ⊥
+
+-- a script that is not spoiled is let in, with the lines of the one that is chosen for the item; of one that is spoiled the rules tell what is expected
+abbrev pub ScriptBy : (scripts number item : ℕ) → Expected → List ℕ → List ℕ → Type 0
+ScriptBy scripts number item expected old new = script_size ≤ length old → ((¬ Happens (number_at number 1) 15) → DrawnLines (2 * chosen scripts (number_at number 0) item) new × ScriptAllowed (sources_in new)) × (Happens (number_at number 1) 15 → ScriptTold expected new)
+
+-- half of the times an entry is read back, if the store has one, and else one is recorded from a run
+abbrev pub ReadOrRecorded : ℕ → (store old row : List ℕ) → Type 0
+ReadOrRecorded number store old row =
+    ((0 < count_of store) × Happens (number_at number 0) 50 × (row ≡ written_at old 0 (take entry_size (drop (entry_at (number_at number 1 % count_of store)) store))))
+    ⊎ ((0 < count_of store → ¬ Happens (number_at number 0) 50) × RecordedEntry old row)
+
+-- an entry that is drawn so stays so, or half of the times it is spoiled, and then the rules tell of it what is expected
+pub record ImportBy (number : ℕ) (store : List ℕ) (expected : Expected) (old new : List ℕ) : Type 0 where
+  pub row : List ℕ
+  pub size : length row ≡ length old
+  pub drawn : ReadOrRecorded number store old row
+  pub kept : (¬ Happens (number_at number 2) 50) → new ≡ row
+  pub changed : Happens (number_at number 2) 50 → entry_size ≤ length row → line_count row ≤ max_lines → asked_in row ≤ max_askings → SpoiledScript expected row new ⊎ ChangedEntry expected row new
+  pub told : Happens (number_at number 2) 50 → entry_size ≤ length row → Believed row → EntryTold expected new
+
+-- the row of a script, of which what is expected comes behind what is expected of its place, and that of an import
+abbrev pub RowBy : HouseSize → (store : List ℕ) → (scripts number : ℕ) → Kind → Expected → List ℕ → List ℕ → Type 0
+RowBy z store scripts number (Script at) expected old new = (later : Expected) × (0 < z.desks → 0 < z.items → expected ≡ first_told (expected_by (place_fault z at.desk at.item)) later) × ScriptBy scripts number at.item later old new
+RowBy z store scripts number (Write at value) expected old new = Unit {0}
+RowBy z store scripts number (Build at) expected old new = Unit {0}
+RowBy z store scripts number (Remove entry) expected old new = Unit {0}
+RowBy z store scripts number Import expected old new = ImportBy number store expected old new

@@ -20,18 +20,18 @@ DrawnLine last (Sum r a b) = Used r × Used a × Used b
 DrawnLine last (Unless a b n) = Used a × Used b × (n ≤ max_skip)
 DrawnLine last (Give r) = Used r
 
-abbrev pub Gives : Line → Type 0
-Gives (Ask r k) = ⊥
-Gives (AskAt r a) = ⊥
-Gives (Number r n) = ⊥
-Gives (Sum r a b) = ⊥
-Gives (Unless a b n) = ⊥
-Gives (Give r) = Unit {0}
+abbrev pub IsGive : Line → Type 0
+IsGive (Ask r k) = ⊥
+IsGive (AskAt r a) = ⊥
+IsGive (Number r n) = ⊥
+IsGive (Sum r a b) = ⊥
+IsGive (Unless a b n) = ⊥
+IsGive (Give r) = Unit {0}
 
 -- the line with this number of so many; the last one gives
 abbrev pub DrawnSource : ℕ → ℕ → ℕ → SourceLine → Type 0
 DrawnSource count last index (Unknown kind r) = ⊥
-DrawnSource count last index (Known l) = DrawnLine last l × (index + 1 ≡ count → Gives l)
+DrawnSource count last index (Known l) = DrawnLine last l × (index + 1 ≡ count → IsGive l)
 
 -- each line is read from the row as one that was drawn
 abbrev pub DrawnLines : ℕ → List ℕ → Type 0

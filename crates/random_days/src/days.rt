@@ -1,9 +1,10 @@
 // One day from its seed: a house is drawn, its items are filled one by one, and then commands come as they are drawn.
 ghost use Rattle.random_days.specs.Counted.{OneMore};
-ghost use Rattle.random_days.specs.Days.{DaySize, FaultAt, IsDayCount, Reached, RightStep, WholeDay};
+ghost use Rattle.random_days.specs.Days.{AfterCommands, DaySize, FaultAt, FaultlessDay, Foreseen, IsDayCount, RightStep, WrongStep};
 ghost use Rattle.random_days.specs.Entries.{first_entries};
 ghost use Rattle.random_days.specs.Faultless.{AllFaultless};
-ghost use Rattle.std.specs.Prelude.{◌≡◌, ◌≢◌, ◌+◌, ◌*◌, ◌^◌, ◌<◌, ◌≤◌, Err, IfErr, IfOk, MatchOption, OnOk};
+ghost use Rattle.random_days.specs.Seeds.{number_at};
+ghost use Rattle.std.specs.Prelude.{◌≡◌, ◌≢◌, ◌+◌, ◌*◌, ◌%◌, ◌^◌, ◌<◌, ◌≤◌, Err, IfErr, IfOk, MatchOption, OnOk};
 ghost use Rattle.store.specs.Rows.{count_of};
 
 use super::drafts::Draft;
@@ -29,7 +30,7 @@ pub struct Wrong {
 
 // A day ends early where something is wrong.
 pub fn run_day(heap: Global, number: u64, tally: &mut Tally) -> Result<Option<Wrong>, AllocError>
-    ensures { IfOk result (λ wrong. MatchOption wrong (WholeDay tally.old.commands tally.new.commands) (λ wrong. FaultAt tally.old.commands tally.new.commands wrong)) }
+    ensures { IfOk result (λ wrong. MatchOption wrong (FaultlessDay tally.old.commands tally.new.commands) (λ wrong. FaultAt tally.old.commands tally.new.commands wrong)) }
 {
     let mut day = Day::new(heap, Seed::new(number))?;
     let deeds = day.draw_count();
@@ -51,7 +52,7 @@ struct Day {
 
 impl Day {
     fn new(heap: Global, seed: Seed) -> Result<Day, AllocError>
-        ensures { IfOk result (λ day. Reached 0 day.watched.house) }
+        ensures { IfOk result (λ day. AfterCommands 0 day.watched.house) }
     {
         Ok(Day {
             seed,
@@ -65,7 +66,8 @@ impl Day {
 
     // How many commands the day has, with those that fill the items.
     fn draw_count(&self) -> u64
-        ensures { DaySize self.now.watched.house.size → IsDayCount result }
+        ensures in_day { DaySize self.now.watched.house.size → IsDayCount result }
+        ensures number { let size = self.now.watched.house.size in DaySize size → result ≡ size.desks * size.items + (20 + number_at self.now.seed.number 3 % 61) }
     {
         let HouseSize { desks, items, .. } = self.watched.house.size;
         let more = self.seed.at(3).between(20, 80);
@@ -79,6 +81,7 @@ impl Day {
         tally: &mut Tally,
     ) -> Result<Result<(), Fault>, AllocError>
         ensures right { IfOk result (λ judged. OnOk judged (RightStep self.old.watched.house self.new.watched.house)) }
+        ensures wrong { IfOk result (λ judged. IfErr judged (WrongStep self.old.watched.house)) }
         ensures fault { IfOk result (λ judged. judged ≢ Err Fault.NotHonest) }
         ensures counted { IfOk result (λ _. OneMore tally.old.commands tally.new.commands) }
     {
@@ -89,7 +92,9 @@ impl Day {
     }
 
     // The first commands fill the items of all desks.
-    fn draw(&self, deed: u64, row: &mut [u64]) -> Draft {
+    fn draw(&self, deed: u64, row: &mut [u64]) -> Draft
+        ensures { Foreseen self.now.watched.house self.now.pool.seed.number self.now.pool.scripts result row.old row.new }
+    {
         let house = &self.watched.house;
         let view = View {
             house,
@@ -131,6 +136,7 @@ fn draw_size(seed: Seed) -> HouseSize
 // At the end of a day every entry replays.
 fn judge_entries(store: &[u64], tally: &mut Tally) -> Result<(), Fault>
     ensures honest { OnOk result (AllFaultless (first_entries (count_of store.now) store.now)) }
+    ensures dishonest { IfErr result (λ _. ¬ AllFaultless (first_entries (count_of store.now) store.now)) }
     ensures fault { IfErr result (λ fault. fault ≡ Fault.NotHonest) }
     ensures counted { tally.new.commands ≡ tally.old.commands }
 {

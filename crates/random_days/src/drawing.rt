@@ -1,6 +1,6 @@
 // Draws the next command of a day, and what will be told of it.
 ghost use Rattle.house.specs.Faults.{place_fault};
-ghost use Rattle.random_days.specs.Drawn.{DrawnFirst, DrawnRemoval, DrawnScript, ExpectedAt, ExpectedOf, ExpectedOfImport, FaultBy, KindBy, RowOf, expected_by, line_count, room_fault};
+ghost use Rattle.random_days.specs.Drawn.{DrawnFirst, DrawnRemoval, DrawnScript, ExpectedAt, ExpectedOf, ExpectedOfImport, FaultBy, FirstBy, ImportBy, KindBy, PlaceBy, PlacedBy, RowBy, RowOf, ScriptBy, expected_by, first_seed, line_count, room_fault};
 ghost use Rattle.random_days.specs.Seeds.{Happens, number_at};
 ghost use Rattle.random_days.specs.declared.drafts.Kind.TheVariants.{Import};
 ghost use Rattle.script.specs.Layout.{max_lines};
@@ -21,11 +21,13 @@ use store::entry_count;
 const PLANS_AT: u64 = 1000;
 
 // The lines and askings of a script or an import go into the row.
-#[tactic(auto, using(crate::proofs::Draws::script_expected, crate::proofs::Draws::removal_expected, crate::proofs::Draws::removal_keeps, crate::proofs::Draws::import_expected, crate::proofs::Draws::import_keeps, crate::proofs::Draws::removal_by, crate::proofs::Draws::import_by))]
+#[tactic(auto, using(crate::proofs::Draws::script_expected, crate::proofs::Draws::removal_expected, crate::proofs::Draws::removal_keeps, crate::proofs::Draws::import_expected, crate::proofs::Draws::import_keeps, crate::proofs::Draws::removal_by, crate::proofs::Draws::import_by, crate::proofs::Draws::removal_placed, crate::proofs::Draws::import_placed, crate::proofs::Draws::removal_row, crate::proofs::Draws::import_row))]
 pub fn draw(view: View<'_>, seed: Seed, row: &mut [u64]) -> Draft
     ensures expected { ExpectedOf view.entry.house.now.size view.entry.house.now.rows.items (number_at seed.number 2) result.kind result.expected }
     ensures kind { KindBy (number_at seed.number 1) result.kind }
     ensures row { RowOf (number_at seed.number 2) result.kind row.old row.new }
+    ensures place { PlacedBy view.entry.house.now.size (number_at (number_at seed.number 0) 2) result.kind }
+    ensures by { RowBy view.entry.house.now.size view.entry.house.now.rows.items view.entry.pool.scripts (number_at seed.number 2) result.kind result.expected row.old row.new }
 {
     let (place, expected) = draw_place(view.house.size, seed.at(0));
     match seed.at(1).below(100) {
@@ -53,7 +55,8 @@ pub fn draw(view: View<'_>, seed: Seed, row: &mut [u64]) -> Draft
 
 // What an item is at the start of a day: most are made by a script, the first is written; every second desk is alike.
 pub fn draw_first(view: View<'_>, place: Place, row: &mut [u64]) -> Draft
-    ensures { DrawnFirst view.entry.house.now.size.items place result row.old row.new }
+    ensures drawn { DrawnFirst view.entry.house.now.size.items place result row.old row.new }
+    ensures by { FirstBy view.entry.pool.scripts (first_seed view.entry.pool.seed.number place) place result.kind row.old row.new }
 {
     let plan = place
         .desk
@@ -77,9 +80,11 @@ pub fn draw_first(view: View<'_>, place: Place, row: &mut [u64]) -> Draft
 }
 
 // An item at a desk, or one that is not there: of the two the desk is refused first.
+#[tactic(auto, using(crate::proofs::Draws::place_by))]
 fn draw_place(size: HouseSize, seed: Seed) -> (Place, Expected)
     ensures expected { ExpectedAt size result.0 result.1 }
     ensures fault { FaultBy (number_at seed.number 2) result.1 }
+    ensures place { PlaceBy size (number_at seed.number 2) result.0 }
 {
     let desk = seed.at(0).below(size.desks);
     let item = seed.at(1).below(size.items);
@@ -114,6 +119,7 @@ fn draw_later(size: HouseSize, seed: Seed, place: Place) -> Place
 fn draw_script(view: View<'_>, seed: Seed, item: u64, row: &mut [u64]) -> Expected
     ensures expected { DrawnScript seed.number result }
     ensures row { (¬ Happens (number_at seed.number 1) 15) → line_count row.new ≤ max_lines }
+    ensures by { ScriptBy view.entry.pool.scripts seed.number item result row.old row.new }
 {
     view.pool
         .write_script(view.pool.choose(seed.at(0), item), row);
@@ -145,6 +151,7 @@ fn draw_remove(view: View<'_>, seed: Seed) -> Draft
 fn draw_import(view: View<'_>, seed: Seed, row: &mut [u64]) -> Draft
     ensures kind { result.kind ≡ Import }
     ensures expected { ExpectedOfImport seed.number view.entry.house.now.size.room (count_of view.entry.house.now.rows.items) result.expected }
+    ensures by { ImportBy seed.number view.entry.house.now.rows.items result.expected row.old row.new }
 {
     let count = entry_count(view.house.rows.as_slice());
     if count > 0 && seed.at(0).percent(50) {

@@ -1,6 +1,6 @@
 // Performs a command, counts what came of it, and says what is otherwise than the rules have it.
 ghost use Rattle.house.specs.Deeds.{deed_of};
-ghost use Rattle.random_days.specs.Counted.{OneMore};
+ghost use Rattle.random_days.specs.Counted.{CountedTold, OneMore};
 ghost use Rattle.random_days.specs.Judged.{AgreedBeside, Meets};
 ghost use Rattle.random_days.specs.Performed.{BuiltAgain, DoneSo, KeptSo, LeftSo, PerformedRight, PerformedWrong, WrongBuilt, WrongSo};
 ghost use Rattle.std.specs.Prelude.{◌≡◌, ◌≢◌, ◌≤◌, true, Ok, Err, Decides, IfErr, OnOk, if◌then◌else◌};
@@ -42,7 +42,8 @@ pub fn perform_judged(
 }
 
 fn count_told(kind: Kind, told: Told, watched: &Watched, beside: Option<Beside>, tally: &mut Tally)
-    ensures { OneMore tally.old.commands tally.new.commands }
+    ensures commands { OneMore tally.old.commands tally.new.commands }
+    ensures refusals { CountedTold told tally.old.refusals tally.new.refusals }
 {
     let import = matches!(kind, Kind::Import);
     tally.commands.count();

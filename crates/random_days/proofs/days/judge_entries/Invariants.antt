@@ -10,4 +10,6 @@ invariant-loop-entry l = record {
   fault : IfErr l.judged (λ fault. fault ≡ NotHonest);
   size : l.entry-iterator.size ≡ l.initial.entry-iterator.size;
   honest : OnOk l.judged (AllFaultless l.entry-iterator.rest.now → AllFaultless l.initial.entry-iterator.rest.now);
+  behind : AllFaultless l.initial.entry-iterator.rest.now → AllFaultless l.entry-iterator.rest.now;
+  dishonest : IfErr l.judged (λ _. ¬ AllFaultless l.initial.entry-iterator.rest.now);
 }

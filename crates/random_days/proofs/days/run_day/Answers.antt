@@ -12,6 +12,7 @@ returns-in-Err c =
       reached = as_many c.loop-deed.deed _ house (omega arith) c.loop-deed.invariant.0;
       at_end = λ same. absurd (c.in_ok-fault.ensures.fault (c.in-Err.is ∙ ap Err same));
       at_command = grind arith;
+      said = λ _. search rules;
     }
 
 pub loop-deed-preserved : goal.loop-deed-preserved
@@ -22,6 +23,7 @@ returns c =
     let house = c.loop-deed.day.watched.house in
     let reached = as_many _ c.draw_count-deeds.result house (omega arith) c.loop-deed.invariant.0 in
     let honest = rw c.as_slice.ensures.value at c.judge_entries-honest.ensures.honest in
-    let end = at_the_end c.args.tally.now.commands c.judge_entries-honest.new.tally.commands _ house (search rules) reached (grind arith) c.judge_entries-honest.result honest c.judge_entries-honest.ensures.fault in
+    let dishonest = rw c.as_slice.ensures.value at c.judge_entries-honest.ensures.dishonest in
+    let end = at_the_end c.args.tally.now.commands c.judge_entries-honest.new.tally.commands _ house (search rules) reached (grind arith) c.judge_entries-honest.result honest dishonest c.judge_entries-honest.ensures.fault in
     let told : c.map.result ≡ option_map (λ fault. record { deed = c.draw_count-deeds.result; fault = fault }) (result_err c.judge_entries-honest.result) = search rules in
     rw told end

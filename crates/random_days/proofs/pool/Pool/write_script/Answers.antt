@@ -1,6 +1,6 @@
 use Rattle.std.proofs.Common.{◌≡◌, ◌+◌, ◌*◌, sym, subst, arith}
 use Rattle.script.specs.declared.line.Line.{Line}
-use Rattle.random_days.specs.Pooled.{DrawnLine, Gives}
+use Rattle.random_days.specs.Pooled.{DrawnLine, IsGive}
 use Rattle.random_days.proofs.Pools.{begun_end, begun_more, begun_none, drawn_more, script_allowed}
 use Rattle.random_days.proofs.pool.Pool.write_script.Goals.{then-saturating_add-count, else-saturating_add-count}
 use Rattle.random_days.proofs.pool.Pool.write_script.Goals as goal
@@ -14,8 +14,8 @@ loop-index-preserved c =
     let last = 2 * c.args.number in
     let i = c.loop-index.index in
     let line = c.if-saturating_add-count.line in
-    let P : Line → Type 0 = λ l. DrawnLine last l × (i + 1 ≡ count → Gives l) in
-    let drawn : DrawnLine last line × (i + 1 ≡ count → Gives line) =
+    let P : Line → Type 0 = λ l. DrawnLine last l × (i + 1 ≡ count → IsGive l) in
+    let drawn : DrawnLine last line × (i + 1 ≡ count → IsGive line) =
     elim c.if-saturating_add-count.branch [
       | then-saturating_add-count w ↦ subst P (sym w.line-is) (w.below.ensures.below (omega arith), λ _. tt)
       | else-saturating_add-count w ↦ subst P (sym w.line-is) (drawn_more _ last _ (omega arith) w.draw_line-line.ensures, λ e. absurd (omega arith))
